@@ -8,6 +8,12 @@ hold no lock of Python's while they code, so threads code side by side.
     data = jlsrec.encode(array)
     assert (jlsrec.decode(data) == array).all()
 
+A recording is a file of many: `write` writes one, `Writer` frame by frame, and `Recording` reads it.
+
+    with jlsrec.Writer("night.jls", maxval=4095, index=True) as writer:
+        for array in camera: writer.append(array)
+    hundred = jlsrec.Recording("night.jls", index=True).read(slice(0, 100), workers=4)
+
 The library is the one in the package or below the same prefix, or that of the checkout, for this machine's processor.
 JLSREC_LIBRARY names another one, and JLSREC_CPU another level of processors, x86-64-v2 or x86-64-v3. It is loaded by the
 first call that needs it, which raises ImportError if it can't be. Any libjlsrec.so.0 of this package's version or a later
@@ -16,22 +22,25 @@ one serves. Python 3.9 or later and numpy are required.
 
 from __future__ import annotations
 
+import contextlib
 import ctypes
 import itertools
 import mmap
 import operator
 import os
+import re
 import sys
 import threading
 from collections.abc import Iterable, Iterator, Sequence
 from dataclasses import dataclass
 from pathlib import Path
-from typing import Optional, Tuple, Union, overload
+from typing import Any, Dict, NamedTuple, Optional, Tuple, Union, overload
 
 import numpy as np
 
 from . import _library
-from ._files import NewFile, Reading, RecordingChanged
+from ._files import GrowingFile, NewFile, Reading, RecordingChanged
+from ._index import Index, Line, WrongIndex, header_of, line_of
 from ._library import JlsrecError
 
 __version__ = "0.1.0"
@@ -40,6 +49,8 @@ __all__ = [
     "JlsrecError",
     "Recording",
     "RecordingChanged",
+    "Writer",
+    "WrongIndex",
     "decode",
     "encode",
     "library_version",
@@ -50,13 +61,14 @@ __all__ = [
 Preset = Tuple[int, int, int, int]
 Data = Union[bytes, bytearray, memoryview, mmap.mmap, np.ndarray]
 Bytes = Union[bytes, np.ndarray]
-# A file, and where a codestream begins and ends in it.
-Place = Tuple[Reading, int, int]
+Name = Union[str, os.PathLike]
 
 # How much of a recording is read at a time to look for its codestreams, and of a codestream for its header.
 WINDOW = 1 << 18
 HEAD = 1 << 12
 EOI = b"\xff\xd9"
+# What isn't data of a scan, which has a bit 0 after each FF (T.87 C.3 and D.1).
+MARKER = re.compile(rb"\xff[\x80-\xff]")
 
 BYTE, WORD = np.dtype(np.uint8), np.dtype(np.uint16)
 
@@ -174,30 +186,50 @@ class Recording(Sequence):
 
     len() and indices find codestreams by their markers, and read no more of the file than they need. Frames are arrays
     as `decode` returns them, numbered from 0, or by negative numbers from the end; another number raises IndexError. A
-    slice is a list of arrays. header(i), data(i) and size(i) are of frame i, without decoding it. A frame that can't be
-    decoded raises JlsrecError, whose text begins with "frame N: "; the other frames can still be read.
+    slice is a list of arrays; read() makes one array of many frames, by several threads. header(i), data(i) and size(i)
+    are of frame i, without decoding it. A frame that can't be decoded raises JlsrecError, whose text begins with "frame
+    N: "; the other frames can still be read.
 
-    Threads may share a recording. It is the file as it was when it was opened: frames appended later aren't seen, and
-    of a file that is replaced, as by `write`, the earlier one is still read. If the file has shrunk since, or was
-    written over, RecordingChanged is raised, an OSError; after close() every use raises ValueError.
+    With an index, as `jlsrec index`, `jlsrec record --index` or `Writer` writes it, len() and any frame are there at
+    once, however long the recording is; frames after the last line are found by their markers. A codestream that is
+    taken by a line must begin and end where the line says, have the line's form, and the line's SHA-256 if it has one,
+    and the line must begin where the one before ends: otherwise WrongIndex is raised, a JlsrecError that names the line,
+    and nothing of it is returned. header(i) looks at the form alone, size(i) only at the line.
+
+    Threads may share a recording. It is the file as it was when it was opened: frames appended later are seen once
+    refresh() is called, and of a file that is replaced, as by `write`, the earlier one is still read. If the file has
+    shrunk since, or was written over, RecordingChanged is raised, an OSError; after close() every use raises ValueError.
 
     If the file is cut off, or damaged between codestreams, the frames before that can be read, and `fault` is the
     error; otherwise `fault` is None.
     """
 
-    def __init__(self, path: Union[str, os.PathLike]) -> None:
-        """Opens a recording. Raises OSError if it can't be opened, or isn't a regular file."""
+    def __init__(self, path: Name, index: Union[Name, bool, None] = None) -> None:
+        """Opens a recording.
+
+        path: its file. index: its index's file, or True for PATH.index; by default none is used.
+
+        Raises OSError if one can't be opened, or isn't a regular file, and WrongIndex if the index doesn't end with a
+        line of one; one that isn't complete, since the index is being written, is left aside.
+        """
         self.path = Path(path)
-        self._file: Optional[Reading] = Reading(path)
-        # Where each codestream that was found begins, and where the last one ends. Only added to, under the lock.
-        self._starts = [0]
+        # The index first, so that the recording has what it lists.
+        lines = None if index is None or index is False else Index(_index_name(path, index))
+        self._files: Optional[Tuple[Reading, Optional[Index]]] = (Reading(path), lines)
+        self._found = _Found(0, [0]) if lines is None else _Found(lines.count, [lines.end])
         self._fault: Optional[JlsrecError] = None
+        # Whether the fault is that the file ends within a codestream, and whether that may be one being written.
+        self._torn = self._live = False
+        # The first frame's header, how many have been compared with it, and the first others, by what they differ in.
+        self._first: Optional[Header] = None
+        self._compared = 0
+        self._unlike: Dict[str, Tuple[int, Header]] = {}
         self._lock = threading.RLock()
-        self._window = _Window(0, b"")
+        self._window = _Window(self._found.end, b"")
 
     def close(self) -> None:
-        """Closes the file. Decoded frames stay valid."""
-        self._file = None
+        """Closes the files. Decoded frames stay valid."""
+        self._files = None
 
     def __enter__(self) -> "Recording":
         self._opened()
@@ -206,64 +238,113 @@ class Recording(Sequence):
     def __exit__(self, *exception: object) -> None:
         self.close()
 
-    def _opened(self) -> Reading:
-        file = self._file
-        if file is None:
+    def _opened(self) -> Tuple[Reading, Optional[Index]]:
+        files = self._files
+        if files is None:
             raise ValueError(f"{self.path}: the recording was closed")
-        return file
+        return files
+
+    def refresh(self) -> int:
+        """Finds the frames that were appended since the recording was opened, or since the last call; how many there are.
+
+        What is known isn't looked at again, frames that were returned stay valid, and so do their numbers. From the first
+        call on the recording is taken as one that is still being written: if it ends within a codestream, that isn't a
+        `fault`, but a frame that isn't there yet. An index is followed too, as far as it goes.
+
+        Raises RecordingChanged if the file, or its index, has shrunk or was written over, and WrongIndex if a new line
+        isn't one or says otherwise than the recording. What was known before can then still be read, as far as it is there.
+        """
+        before = len(self)
+        with self._lock:
+            file, index = self._opened()
+            if index is not None:
+                index.refresh()
+            file.refresh()
+            found = self._found
+            if index is not None and index.count > found.first:
+                self._found = found.after(index)
+            self._live = True
+            if self._torn:
+                self._fault = None
+            self._window = _Window(self._found.end, b"")
+        return len(self) - before
 
     def _walk(self, frames: int = sys.maxsize) -> Reading:
         """Finds where the first frames end, or all, and returns the file."""
-        file, starts = self._opened(), self._starts
-        if len(starts) <= frames and self._fault is None and starts[-1] < file.size:
+        file, _ = self._opened()
+        if self._is_before(frames, file):
             with self._lock:
-                while len(starts) <= frames and self._fault is None and starts[-1] < file.size:
-                    self._step(file)
-                if self._fault is not None or starts[-1] == file.size or len(self._window.data) > 16 * WINDOW:
-                    self._window = _Window(starts[-1], b"")
+                while self._is_before(frames, file):
+                    self._step(file, frames - self._found.count)
+                if self._fault is not None or self._found.end == file.size or len(self._window.data) > 16 * WINDOW:
+                    self._window = _Window(self._found.end, b"")
         return file
 
-    def _step(self, file: Reading) -> None:
-        """Finds where the next codestream ends, or why there is none."""
-        number, window = len(self._starts), self._window
-        start = self._starts[number - 1]
-        status, end = window.extent(start)
+    def _is_before(self, frames: int, file: Reading) -> bool:
+        """Whether there may be codestreams that aren't found yet among the first frames and the next."""
+        return self._found.count < frames and self._fault is None and self._found.end < file.size
+
+    def _step(self, file: Reading, most: int) -> None:
+        """Finds where the next codestreams end, at most so many, or why there is none."""
+        found, window = self._found, self._window
+        number, start = len(found.starts), found.end
+        if not window.start <= start <= window.end:
+            window = _Window(start, b"")
+        ends, status, end = window.extents(start, most)
         # What has no end within the window may have one behind it.
-        while end == window.end < file.size:
+        while not ends and end == window.end < file.size:
             if start == window.start:
                 size = max(WINDOW, 2 * len(window.data))
             else:
-                size = max(WINDOW, (start - self._starts[number - 2]) * 5 // 4)
+                size = max(WINDOW, (start - found.starts[max(number - 2, 0)]) * 5 // 4)
             window = _Window(start, file.read(start, min(start + size, file.size)))
-            status, end = window.extent(start)
+            ends, status, end = window.extents(start, most)
         self._window = window
-        details = _library.Fault()
-        if status == _library.OK and not window.data.endswith(EOI, start - window.start, end - window.start):
-            status, details = _fault_of(window.data[start - window.start : end - window.start])
-        if status == _library.NO_MEMORY:
-            _library.check(status)
-        if status == _library.OK:
-            # A signal's handler may have come here meanwhile, and found the same.
-            self._starts[number : number + 1] = [end]
-        else:
-            self._fault = JlsrecError(status, details)
+        if not ends:
+            if status == _library.NO_MEMORY:
+                _library.check(status)
+            details = _library.Fault()
+            data = window.data[start - window.start : end - window.start]
+            if status == _library.OK and not data.endswith(EOI):
+                status, details = _fault_of(data)
+            if status != _library.OK:
+                self._torn = end == file.size and _Window(0, data + b"\0").extent(0)[1] == len(data) + 1
+                self._fault = JlsrecError(status, details)
+                return
+            ends = [end]
+        # A signal's handler may have come here meanwhile, and found the same.
+        found.starts[number : number + len(ends)] = ends
 
     @property
     def fault(self) -> Optional[JlsrecError]:
         """Why no more frames can be read after the last one; None if the file ends there."""
-        self._walk()
-        return self._fault
+        file = self._walk()
+        found = self._found
+        if self._fault is None and found.end > file.size:
+            return WrongIndex(self._opened()[1].path, found.count - 1, "the recording ends before")
+        return None if self._live and self._torn else self._fault
 
     def __len__(self) -> int:
         self._walk()
-        return len(self._starts) - 1
+        return self._found.count
 
-    def _place(self, index: int) -> Optional[Place]:
+    def _place(self, index: int) -> Optional["_Place"]:
         """Where the codestream of a frame is, by the frame's number from 0; None after the last."""
-        file, starts = self._walk(index + 1), self._starts
-        return (file, starts[index], starts[index + 1]) if index + 1 < len(starts) else None
+        file, lines = self._opened()
+        found = self._found
+        if lines is not None and index < found.first:
+            line = lines.line(index)
+            if line.end > file.size:
+                raise line.wrong(f"the recording ends before: {line.end - line.start} bytes at {line.start}")
+            return _Place(file, line.start, line.end, line)
+        self._walk(index + 1)
+        found = self._found
+        if index < found.first:
+            return self._place(index)
+        place = index - found.first
+        return _Place(file, *found.starts[place : place + 2], None) if index < found.count else None
 
-    def _span(self, index: int) -> Place:
+    def _span(self, index: int) -> "_Place":
         """Where the codestream of a frame is. Raises IndexError if there is no such frame."""
         index = operator.index(index)
         if index < 0:
@@ -273,14 +354,15 @@ class Recording(Sequence):
             raise IndexError("no such frame")
         return place
 
-    def _frame(self, place: Place, index: int) -> np.ndarray:
-        file, start, end = place
+    def _frame(self, place: "_Place", index: int, out: Optional[np.ndarray] = None) -> np.ndarray:
         try:
-            array, used = _decode(file.read(start, end), None)
+            array, used = _decode(place.read(), out)
+        except WrongIndex:
+            raise
         except JlsrecError as error:
             raise error.of_frame(index if index >= 0 else index + len(self)) from None
-        if used != end - start:
-            raise file.written_over()
+        if used != place.end - place.start:
+            raise place.file.written_over()
         return array
 
     @overload
@@ -303,26 +385,258 @@ class Recording(Sequence):
                 return
             yield self._frame(place, index)
 
+    def read(
+        self, frames: Union[slice, Iterable[int], None] = None, out: Optional[np.ndarray] = None, workers: int = 1
+    ) -> np.ndarray:
+        """Many frames at once: an array (frames, height, width) or (frames, height, width, 3).
+
+        frames: their numbers: a slice, a range, a list or another iterable of numbers, in any order, also several times,
+        and by negative numbers from the end; by default all. They must be of one shape.
+        out: the array that they are decoded into, of that shape, contiguous and writable: uint16, or uint8 where maxval is
+        at most 255. Without it a new one is made, of the type of the first of them. It is what is returned.
+        workers: how many threads decode, 1 or more; no more than processors are worth while.
+
+        Beside the array it takes the memory of one codestream for each worker.
+
+        Raises IndexError if there is no frame of a number, TypeError for other arguments, and ValueError for an out that
+        doesn't fit or no worker, or if there is no frame whose shape the array would have; then out is unchanged. If a
+        frame can't be read, the error of the first one is raised, in the order of frames: JlsrecError if it can't be
+        decoded, and ValueError if its shape or type doesn't fit, both with texts that begin with "frame N", or what else
+        a single frame raises. Then out has the frames before that one; the rest of it is unspecified, and so is all of it
+        after an interrupt.
+        """
+        numbers = self._numbers(frames)
+        workers = operator.index(workers)
+        if workers < 1:
+            raise ValueError(f"one worker or more is wanted, and this is {workers}")
+        if len(numbers) == 0 and len(self) == 0 and out is None:
+            raise ValueError(f"{self.path}: there is no frame, whose shape the array would have")
+        if len(numbers) > 0 or out is None:
+            header = self._header_for(numbers[0] if len(numbers) > 0 else 0)
+            out = _fitting(out, (len(numbers), *header.shape), header.dtype)
+        elif out.shape[:1] != (0,):
+            raise ValueError(f"out must have no frame, and is {out.shape}")
+        _Filling(self, numbers, out, max(1, min(workers, len(numbers)))).run()
+        return out
+
+    def _numbers(self, frames: Union[slice, Iterable[int], None]) -> Sequence[int]:
+        """The numbers of frames, from 0. Raises IndexError if there is no such frame."""
+        if frames is None:
+            return range(len(self))
+        if isinstance(frames, slice):
+            return range(*frames.indices(len(self)))
+        given = [operator.index(number) for number in frames]
+        count = len(self) if min(given, default=0) < 0 else 0
+        numbers = [number if number >= 0 else number + count for number in given]
+        self._walk(max(numbers, default=-1) + 1)
+        for number, meant in zip(given, numbers):
+            if not 0 <= meant < self._found.count:
+                raise IndexError(f"no such frame: {number}")
+        return numbers
+
+    def _header_for(self, index: int) -> Header:
+        """The header of a frame, whose number an error names."""
+        try:
+            return self.header(index)
+        except WrongIndex:
+            raise
+        except JlsrecError as error:
+            raise error.of_frame(index) from None
+
+    @property
+    def shape(self) -> tuple[int, ...]:
+        """(frames, height, width), or (frames, height, width, 3), if all frames are of one shape.
+
+        Otherwise, or if there is no frame, it raises AttributeError, whose text says which frame is the first of another
+        shape. All headers are looked at once, or the lines of an index; JlsrecError is raised for one that is malformed.
+        """
+        shape = self._common("shape")
+        return (self._compared, *shape)
+
+    @property
+    def dtype(self) -> np.dtype:
+        """The type of the samples, if it is that of all frames; otherwise it raises what shape does."""
+        return self._common("dtype")
+
+    @property
+    def maxval(self) -> int:
+        """The greatest value that a sample may have, if it is that of all frames; otherwise it raises what shape does."""
+        return self._common("maxval")
+
+    def _common(self, name: str) -> Any:
+        """What the headers of all frames have under a name. Raises AttributeError where one has something else."""
+        count = len(self)
+        with self._lock:
+            for header in self._headers(self._compared, count):
+                if self._first is None:
+                    self._first = header
+                for each in ("shape", "dtype", "maxval"):
+                    if header is not self._first and getattr(header, each) != getattr(self._first, each):
+                        self._unlike.setdefault(each, (self._compared, header))
+                self._compared += 1
+        if self._first is None:
+            raise AttributeError(f"{self.path}: there is no frame, so there is no {name}")
+        if name in self._unlike:
+            number, header = self._unlike[name]
+            texts = f"{name} {getattr(header, name)}", getattr(self._first, name)
+            raise AttributeError(f"{self.path}: frame {number} has {texts[0]}, and those before {texts[1]}")
+        return getattr(self._first, name)
+
+    def _headers(self, first: int, end: int) -> Iterator[Header]:
+        """The headers of the frames from one number to another, of those in an index as it has them."""
+        same, header, text, window = None, None, None, _Window(0, b"")
+        for number in range(first, end):
+            file, start, stop, line = self._span(number)
+            if line is not None:
+                if line.form != text:
+                    text, header = line.form, _header_in(line.form)
+            else:
+                if not window.start <= start <= min(stop, start + HEAD) <= window.end:
+                    ahead = WINDOW if stop - start < HEAD else HEAD
+                    window = _Window(start, file.read(start, min(start + ahead, file.size)))
+                # Codestreams that begin with the same bytes up to their data have one header.
+                if same is None or not window.data.startswith(same, start - window.start):
+                    header, same = self._header_for(number), None
+                    front = window.data[start - window.start : min(stop, start + HEAD) - window.start]
+                    with contextlib.suppress(IndexError):
+                        same = front[: header_of(front)[1]]
+            yield header
+
     def data(self, index: int) -> bytes:
         """The codestream of the frame of this number, as it stands in the file. Raises IndexError if there is none."""
-        file, start, end = self._span(index)
-        return file.read(start, end)
+        return self._span(index).read()
 
     def size(self, index: int) -> int:
         """The number of bytes of a frame's codestream. Raises IndexError if there is no such frame."""
-        _, start, end = self._span(index)
-        return end - start
+        place = self._span(index)
+        return place.end - place.start
 
     def header(self, index: int) -> Header:
         """What a frame's codestream says of it. Raises IndexError if there is none, JlsrecError if it is malformed."""
-        file, start, end = self._span(index)
+        place = self._span(index)
+        file, start, end, _ = place
         front = min(HEAD, end - start)
         try:
-            return _header(file.read(start, start + front))
+            return place.header(file.read(start, start + front))
         except JlsrecError as error:
             if error.status != _library.TRUNCATED or front == end - start:
                 raise
-        return _header(file.read(start, end))
+        return place.header(file.read(start, end))
+
+
+class _Found:
+    """Where codestreams are that were found by their markers: those after the first, which an index has.
+
+    starts: where each begins, and where the last one ends. Only added to, and under the recording's lock.
+    """
+
+    def __init__(self, first: int, starts: list[int]) -> None:
+        self.first, self.starts = first, starts
+
+    @property
+    def count(self) -> int:
+        """How many frames there are before the end of the last."""
+        return self.first + len(self.starts) - 1
+
+    @property
+    def end(self) -> int:
+        """Where the last of them ends."""
+        return self.starts[-1]
+
+    def after(self, index: Index) -> "_Found":
+        """Those of them that an index doesn't have which has grown. Raises WrongIndex if its last line says otherwise."""
+        starts = self.starts[index.count - self.first :] or [index.end]
+        if starts[0] != index.end or index.count > self.count and index.end <= self.end:
+            raise WrongIndex(index.path, index.count - 1, f"it ends at {index.end}, where no codestream of its number does")
+        return _Found(index.count, starts)
+
+
+class _Place(NamedTuple):
+    """Where a codestream begins and ends in a file, and its line, if it is known by an index."""
+
+    file: Reading
+    start: int
+    end: int
+    line: Optional[Line]
+
+    def read(self) -> bytes:
+        """The codestream. Raises WrongIndex if it isn't the line's."""
+        data = self.file.read(self.start, self.end)
+        if self.line is not None:
+            self.line.check_sum(data)
+            status, extent = _Window(0, data).extent(0)
+            _library.check(status if status == _library.NO_MEMORY else _library.OK)
+            if status != _library.OK or extent != len(data) or not data.endswith(EOI):
+                raise self.line.wrong(f"no codestream is there of {len(data)} bytes at {self.start}")
+            self.header(data)
+        return data
+
+    def header(self, data: bytes) -> Header:
+        """What data says, which is the codestream or its front. Raises WrongIndex if it isn't what the line says."""
+        form = _form(data)
+        if self.line is not None:
+            self.line.check_form(form, data)
+        return _header_of(form)
+
+
+class _Filling:
+    """Frames of a recording that threads decode into an array, each frame once, and in order."""
+
+    def __init__(self, recording: Recording, numbers: Sequence[int], array: np.ndarray, workers: int) -> None:
+        self._recording, self._numbers, self._array, self._workers = recording, numbers, array, workers
+        # The first frame that nobody has begun, and the first that can't be read, with its error: by place in the array.
+        self._next = 0
+        self._failed: Optional[Tuple[int, Exception]] = None
+        self._lock = threading.Lock()
+
+    def run(self) -> None:
+        """Decodes all frames. Raises the error of the first that can't be read, once those before it are decoded."""
+        threads = [threading.Thread(target=self._work, daemon=True) for _ in range(self._workers - 1)]
+        try:
+            for thread in threads:
+                thread.start()
+            self._work()
+            for thread in threads:
+                thread.join()
+        except BaseException:
+            self._next = len(self._numbers)
+            for thread in threads:
+                if thread.ident is not None:
+                    thread.join()
+            raise
+        if self._failed is not None:
+            raise self._failed[1]
+
+    def _work(self) -> None:
+        """Decodes frames until all are begun, or one can't be read."""
+        # So many at a time that threads seldom wait for each other, and end at about the same time.
+        step = max(1, min(16, len(self._numbers) // (8 * self._workers)))
+        while True:
+            with self._lock:
+                first = self._next
+                if first >= len(self._numbers) or self._failed is not None:
+                    return
+                self._next = first + step
+            for place in range(first, min(first + step, len(self._numbers))):
+                try:
+                    self._fill(place)
+                except Exception as error:
+                    with self._lock:
+                        if self._failed is None or place < self._failed[0]:
+                            self._failed = place, error
+                    return
+
+    def _fill(self, place: int) -> None:
+        """Decodes the frame of this place in the array."""
+        number, out = self._numbers[place], self._array[place]
+        try:
+            self._recording._frame(self._recording._span(number), number, out)
+        except JlsrecError:
+            raise
+        except ValueError:
+            header = self._recording.header(number)
+            text = f"frame {number} is {header.shape} of {header.dtype}, where {out.shape} of {out.dtype} is wanted"
+            raise ValueError(text) from None
 
 
 class _Window:
@@ -333,12 +647,59 @@ class _Window:
         self._array = np.frombuffer(data, np.uint8) if data else np.empty(0, np.uint8)
         self._address = self._array.ctypes.data
 
-    def extent(self, start: int) -> tuple[int, int]:
-        """The library's status for the codestream that begins at start, and where it ends as far as these bytes show."""
+    def extent(self, start: int, most: int = sys.maxsize) -> tuple[int, int]:
+        """The library's status for the codestream that begins at start, and where it ends as far as these bytes, or the
+        first of them, show."""
         count = ctypes.c_size_t()
-        place, left = self._address + start - self.start, self.end - start
+        place, left = self._address + start - self.start, min(self.end - start, most)
         status = _library.library().jlsrec_extent(place, left, ctypes.byref(count))
         return status, start + count.value
+
+    def extents(self, start: int, most: int) -> tuple[list[int], int, int]:
+        """Where the codestreams from start on end that these bytes show to end, at most so many; and, if there is none,
+        what extent says.
+
+        A call of the library for many codestreams would stand here.
+        """
+        ends: list[int] = []
+        status, end, likely = _library.OK, start, sys.maxsize
+        while len(ends) < most and end < self.end:
+            # The library copies what it is given: so no more than is likely to be needed.
+            status, end = self.extent(start, likely)
+            if end - start == likely:
+                status, end = self.extent(start)
+            if status != _library.OK or end == self.end or not self.data.endswith(EOI, 0, end - self.start):
+                break
+            ends.append(end)
+            likely = max(HEAD, 2 * (end - start))
+            ends += self._alike(start, end, most - len(ends))
+            start = end = ends[-1]
+        return ends, status, end
+
+    def _alike(self, start: int, end: int, most: int) -> list[int]:
+        """Where the codestreams end that follow one from start to end, and are like it; at most so many.
+
+        Only segments and markers decide where a codestream ends. So if the first marker after the header of its first
+        scan ends it, which is EOI, it also ends another one that begins with the same bytes up to there.
+        """
+        data, ends = self.data, []
+        first, after = start - self.start, end - self.start
+        try:
+            length = header_of(data[first : min(first + HEAD, after)])[1]
+        except IndexError:
+            return ends
+        headers = data[first : first + length]
+        begins, search = data.startswith, MARKER.search
+        found = search(data, first + length)
+        if found is None or found.end() != after:
+            return ends
+        while len(ends) < most and begins(headers, after):
+            found = search(data, after + length)
+            if found is None or found[0] != EOI or found.end() == len(data):
+                break
+            after = found.end()
+            ends.append(self.start + after)
+        return ends
 
 
 def write(
@@ -367,7 +728,7 @@ def write(
     Raises what encode raises for an array, TypeError for what isn't frames, and OSError if the file can't be written:
     BlockingIOError if another program holds a lock of it.
     """
-    shape = getattr(arrays, "shape", None)
+    shape = None if isinstance(arrays, Recording) else getattr(arrays, "shape", None)
     if isinstance(shape, tuple) and (len(shape) < 3 or (len(shape) == 3 and shape[2] == 3)):
         raise TypeError(f"frames are wanted, not the rows of one: this is {shape}; pass a single picture as [picture]")
     each = iter(arrays)
@@ -388,6 +749,119 @@ def write(
     return frames
 
 
+class Writer:
+    """A recording that is written frame by frame, and may be read meanwhile.
+
+        with jlsrec.Writer("night.jls", maxval=4095) as writer:
+            for array in camera: writer.append(array)
+
+    The recording grows at its place, PATH, as that of `jlsrec record` does: so each frame that was appended can be read
+    at once, also by another program (`Recording.refresh`), and stays if the process dies. It has the codestreams of the
+    frames that were appended, one after the other, and nothing else. Only while a frame is appended, or if the process
+    is killed then, may the beginning of its codestream stand after them: readers take that as the recording's end. What
+    was appended is on the disk, and so stays if the machine fails, once sync() or close() has returned. (`write`, which
+    has all frames at once, puts a recording to its place only when it is complete.)
+
+    If a frame can't be appended, append() raises the error, recording and index are as they were before, and others can
+    be appended. If the `with` block raises an error, the frames before it stay, as with close(); if there were none, the
+    files are removed. PATH is locked (flock) until it is closed, so that `write` and `jlsrec record` leave it alone.
+
+    Threads may share a writer: they encode side by side, and frames are numbered as their calls come to write them.
+
+    path: the recording's file, as a Path. frames: how many were appended.
+    """
+
+    def __init__(
+        self,
+        path: Name,
+        maxval: Optional[int] = None,
+        preset: Optional[Preset] = None,
+        index: Union[Name, bool, None] = None,
+    ) -> None:
+        """Makes an empty recording.
+
+        path: its file. maxval and preset: of each frame, as for encode.
+        index: the file of an index, or True for PATH.index, as `jlsrec record --index` writes it: the line of each
+        codestream, once the codestream is written. By default there is none.
+
+        Raises FileExistsError if one of the files exists, which is never written over, and another OSError if one can't be
+        made. Then there is no new file.
+        """
+        self.path = Path(path)
+        self.frames = 0
+        self._options = (maxval, preset)
+        self._lock = threading.RLock()
+        self._file: Optional[GrowingFile] = GrowingFile(path)
+        try:
+            wanted = index is not None and index is not False
+            self._lines = GrowingFile(_index_name(path, index)) if wanted else None
+        except BaseException:
+            self._file.drop()
+            raise
+
+    def append(self, array: np.ndarray) -> int:
+        """Appends a frame, and answers its number, from 0.
+
+        Raises what encode raises for the array, OSError if it can't be written, and ValueError after close(). The
+        recording and its index are then as they were before.
+        """
+        self._opened()
+        data = encode(array, *self._options)
+        with self._lock:
+            file, number, start = self._opened(), self.frames, self._file.count
+            lines = self._lines
+            listed = lines.count if lines is not None else 0
+            try:
+                file.append(data)
+                if lines is not None:
+                    lines.append(line_of(number, start, _form(data), data))
+                self.frames = number + 1
+            except BaseException:
+                # The line first: an index never has more than its recording.
+                if lines is not None:
+                    lines.cut(listed)
+                file.cut(start)
+                self.frames = number
+                raise
+        return number
+
+    def sync(self) -> None:
+        """Waits until all that was appended is on the disk. Raises OSError if that fails, and ValueError after close()."""
+        with self._lock:
+            self._opened().sync()
+            if self._lines is not None:
+                self._lines.sync()
+
+    def close(self) -> None:
+        """Syncs and closes the recording; a second time it does nothing. Raises OSError if it can't be synced."""
+        with self._lock:
+            file, self._file = self._file, None
+            if file is not None:
+                try:
+                    file.close()
+                finally:
+                    if self._lines is not None:
+                        self._lines.close()
+
+    def _opened(self) -> GrowingFile:
+        if self._file is None:
+            raise ValueError(f"{self.path}: the recording was closed")
+        return self._file
+
+    def __enter__(self) -> "Writer":
+        self._opened()
+        return self
+
+    def __exit__(self, kind: object, *error: object) -> None:
+        with self._lock:
+            if kind is not None and self.frames == 0 and self._file is not None:
+                file, self._file = self._file, None
+                if self._lines is not None:
+                    self._lines.drop()
+                file.drop()
+        self.close()
+
+
 def _note(error: BaseException, text: str) -> None:
     """Adds a note to an error, as Python does from 3.11 on."""
     error.__notes__ = [*getattr(error, "__notes__", []), text]
@@ -406,6 +880,11 @@ def _room(size: int) -> np.ndarray:
     if _kept.room.size < size:
         _kept.room = np.empty(size, np.uint8)
     return _kept.room
+
+
+def _index_name(path: Name, index: Union[Name, bool]) -> Name:
+    """The name of a recording's index, which is given, or follows from the recording's."""
+    return f"{os.fsdecode(path)}.index" if index is True else index
 
 
 def _preset(preset: Optional[Preset]) -> tuple[int, ...]:
@@ -474,20 +953,35 @@ def _form(data: Bytes) -> _library.Form:
 
 
 def _header(data: Bytes) -> Header:
-    form = _form(data)
+    return _header_of(_form(data))
+
+
+def _header_of(form: _library.Form) -> Header:
     return Header(form.width, form.height, form.components, form.maxval, (form.t1, form.t2, form.t3, form.reset))
+
+
+def _header_in(columns: bytes) -> Header:
+    """The header that a line of an index has: kind, width, height, maxval, P, T1, T2, T3 and RESET."""
+    kind, *numbers = columns.split(b" ")
+    width, height, maxval, _, *preset = map(int, numbers)
+    return Header(width, height, 1 if kind == b"gray" else 3, maxval, tuple(preset))
+
+
+def _fitting(out: Optional[np.ndarray], shape: tuple[int, ...], kind: np.dtype) -> np.ndarray:
+    """The array that samples of a shape and a type are decoded into. Raises ValueError if out doesn't fit."""
+    if out is None:
+        return np.empty(shape, kind)
+    if out.shape != shape or out.dtype not in (WORD, kind):
+        raise ValueError(f"out must be {shape} of {kind}, and is {out.shape} of {out.dtype}")
+    if not (out.flags.c_contiguous and out.flags.writeable and out.flags.aligned):
+        raise ValueError("out must be contiguous and writable")
+    return out
 
 
 def _decode(data: Bytes, out: Optional[np.ndarray]) -> tuple[np.ndarray, int]:
     """The picture at the front of the bytes, and how many of them are its codestream."""
     form = _form(data)
-    shape, kind = _shape_of(form), _type_of(form)
-    if out is None:
-        out = np.empty(shape, kind)
-    elif out.shape != shape or out.dtype not in (WORD, kind):
-        raise ValueError(f"out must be {shape} of {kind}, and is {out.shape} of {out.dtype}")
-    elif not (out.flags.c_contiguous and out.flags.writeable and out.flags.aligned):
-        raise ValueError("out must be contiguous and writable")
+    out = _fitting(out, _shape_of(form), _type_of(form))
     fault, used, library = _library.Fault(), ctypes.c_size_t(), _library.library()
     status = (library.jlsrec_decode_8 if out.dtype.itemsize == 1 else library.jlsrec_decode_16)(
         _address(data),

@@ -29,29 +29,40 @@ class RecordingChanged(OSError):
 class Reading:
     """A file that is read at any place, as it was when it was opened.
 
-    What is appended later isn't seen. The file is closed once nobody uses it, so that no thread reads from another file
-    that got its number.
+    What is appended later isn't seen until refresh. The file is closed once nobody uses it, so that no thread reads from
+    another file that got its number.
     """
 
     def __init__(self, path: Name) -> None:
         """Opens a file. Raises OSError if it can't be opened, or can't be read at any place, as a pipe."""
         self._number = -1
-        self._path = os.fsdecode(path)
+        self.path = os.fsdecode(path)
         # Looked at first, since the opening and closing of a pipe would end what writes to it.
         mode = os.stat(path).st_mode
         if stat.S_ISDIR(mode):
-            raise IsADirectoryError(errno.EISDIR, os.strerror(errno.EISDIR), self._path)
+            raise IsADirectoryError(errno.EISDIR, os.strerror(errno.EISDIR), self.path)
         if not stat.S_ISREG(mode):
-            raise OSError(errno.ESPIPE, "not a regular file", self._path)
+            raise OSError(errno.ESPIPE, "not a regular file", self.path)
         self._number = os.open(path, os.O_RDONLY | os.O_CLOEXEC)
         opened = os.fstat(self._number)
-        self.size = opened.st_size
+        # How much is seen of it, and what stands there first and last: set together, since threads read meanwhile.
+        self._seen = opened.st_size, self._read_edges(opened.st_size)
         self._changed = opened.st_ctime_ns
-        self._edges = self._read_edges()
 
     def __del__(self) -> None:
         if self._number >= 0:
             os.close(self._number)
+
+    @property
+    def size(self) -> int:
+        """How many bytes are seen of it."""
+        return self._seen[0]
+
+    def refresh(self) -> None:
+        """Sees what was appended since. Raises RecordingChanged if what was seen of it isn't as it was."""
+        now = os.fstat(self._number)
+        self._look(now)
+        self._seen = now.st_size, self._read_edges(now.st_size)
 
     def read(self, start: int, end: int) -> bytes:
         """The bytes from start to end, both within its size. Raises RecordingChanged if the file isn't as it was."""
@@ -70,31 +81,30 @@ class Reading:
             data = os.pread(self._number, min(end - start, READ), start)
             if not data:
                 self._look(os.fstat(self._number))
-                raise RecordingChanged(errno.ESTALE, "it has no more bytes, where it had some", self._path)
+                raise RecordingChanged(errno.ESTALE, "it has no more bytes, where it had some", self.path)
             parts.append(data)
             start += len(data)
         return b"".join(parts)
 
     def _look(self, now: os.stat_result) -> None:
         """Looks at a file that was changed."""
-        if now.st_size < self.size:
+        size, edges = self._seen
+        if now.st_size < size:
             raise RecordingChanged(
-                errno.ESTALE, f"it has shrunk from {self.size} to {now.st_size} bytes since it was opened", self._path
+                errno.ESTALE, f"it has shrunk from {size} to {now.st_size} bytes since it was opened", self.path
             )
-        if self._read_edges() != self._edges:
+        if self._read_edges(size) != edges:
             raise self.written_over()
         self._changed = now.st_ctime_ns
 
     def written_over(self) -> RecordingChanged:
         """The error of a file that holds other bytes than it did."""
-        return RecordingChanged(errno.ESTALE, "it was written over since it was opened", self._path)
+        return RecordingChanged(errno.ESTALE, "it was written over since it was opened", self.path)
 
-    def _read_edges(self) -> tuple[bytes, bytes]:
-        """The first and the last bytes of what was there when it was opened."""
-        return (
-            os.pread(self._number, min(EDGE, self.size), 0),
-            os.pread(self._number, min(EDGE, self.size), self.size - min(EDGE, self.size)),
-        )
+    def _read_edges(self, size: int) -> tuple[bytes, bytes]:
+        """The first and the last of so many bytes."""
+        edge = min(EDGE, size)
+        return os.pread(self._number, edge, 0), os.pread(self._number, edge, size - edge)
 
 
 def write_all(number: int, data: Union[bytes, memoryview]) -> None:
@@ -196,15 +206,9 @@ class NewFile:
                 raise
         return number
 
-    @contextlib.contextmanager
-    def named(self) -> Iterator[None]:
+    def named(self) -> contextlib.AbstractContextManager[None]:
         """Gives an error of the system the name that the caller gave the file."""
-        try:
-            yield
-        except OSError as error:
-            if error.errno is None:
-                raise
-            raise OSError(error.errno, error.strerror, self.path) from None
+        return naming(self.path)
 
     def write(self, data: Union[bytes, memoryview]) -> None:
         """Appends bytes."""
@@ -215,11 +219,7 @@ class NewFile:
     def sync(self) -> None:
         """Syncs the file and closes it, so that it only is to be put into its place."""
         with self.named():
-            try:
-                os.fsync(self.number)
-            except OSError as error:
-                if error.errno not in LACKING:
-                    raise
+            sync(self.number)
             self._close()
 
     def finish(self) -> None:
@@ -271,26 +271,19 @@ class NewFile:
             with contextlib.suppress(OSError):
                 os.ftruncate(self.number, count)
         self._close()
-        return self.part if self._is_at(self.part) else None
+        return self.part if self.part is not None and is_at(self.part, self._made) else None
 
     def drop(self) -> None:
         """Removes the file beside."""
         self._close()
-        if self._is_at(self.part):
+        if self.part is not None and is_at(self.part, self._made):
             os.unlink(self.part)
 
     def remove(self) -> None:
         """Removes the file, also if it is in its place already."""
         self.drop()
-        if stat.S_ISREG(self._made.st_mode) and self._is_at(self._place):
+        if stat.S_ISREG(self._made.st_mode) and is_at(self._place, self._made):
             os.unlink(self._place)
-
-    def _is_at(self, path: Optional[str]) -> bool:
-        """Whether what this made is at a path."""
-        try:
-            return path is not None and os.path.samestat(os.lstat(path), self._made)
-        except FileNotFoundError:
-            return False
 
     def _close(self) -> None:
         number, self.number = self.number, -1
@@ -308,6 +301,100 @@ class NewFile:
             self.drop()
 
 
+class GrowingFile:
+    """A new file at its place, to which bytes are appended, and which others may read meanwhile.
+
+    It is never made over an existing file, and is locked (flock) until it is closed, as `jlsrec record` does.
+    """
+
+    def __init__(self, path: Name) -> None:
+        """Makes the file. Raises FileExistsError if there is one."""
+        self._number = -1
+        self.path = os.fsdecode(path)
+        # Of a name that begins at the working folder, which may change meanwhile.
+        self._place = os.path.abspath(self.path)
+        # How many bytes were appended.
+        self.count = 0
+        with naming(self.path):
+            self._number = os.open(self._place, os.O_WRONLY | os.O_CREAT | os.O_EXCL | os.O_CLOEXEC, 0o666)
+            self._made = os.fstat(self._number)
+            try:
+                fcntl.flock(self._number, fcntl.LOCK_EX | fcntl.LOCK_NB)
+            except OSError as error:
+                if error.errno not in LACKING:
+                    raise
+
+    def __del__(self) -> None:
+        self._close()
+
+    def append(self, data: bytes) -> None:
+        """Appends bytes. If not all of them can be written, some may be there, which cut removes."""
+        with naming(self.path):
+            write_all(self._number, data)
+        self.count += len(data)
+
+    def cut(self, count: int) -> None:
+        """Ends the file after the first bytes. If the system refuses that, the next bytes come there, or sync does it."""
+        self.count = count
+        with contextlib.suppress(OSError):
+            os.lseek(self._number, count, os.SEEK_SET)
+            os.ftruncate(self._number, count)
+
+    def sync(self) -> None:
+        """Waits until the bytes, and the file's name, are on the disk."""
+        with naming(self.path):
+            if os.fstat(self._number).st_size > self.count:
+                os.ftruncate(self._number, self.count)
+            sync(self._number)
+            sync_folder(os.path.dirname(self._place))
+
+    def close(self) -> None:
+        """Syncs the file and closes it."""
+        try:
+            self.sync()
+        finally:
+            self._close()
+
+    def drop(self) -> None:
+        """Closes the file and removes it."""
+        self._close()
+        if is_at(self._place, self._made):
+            os.unlink(self._place)
+
+    def _close(self) -> None:
+        number, self._number = self._number, -1
+        if number >= 0:
+            os.close(number)
+
+
+@contextlib.contextmanager
+def naming(path: str) -> Iterator[None]:
+    """Gives an error of the system the name that the caller gave a file."""
+    try:
+        yield
+    except OSError as error:
+        if error.errno is None:
+            raise
+        raise OSError(error.errno, error.strerror, path) from None
+
+
+def is_at(path: str, made: os.stat_result) -> bool:
+    """Whether the file that was made is at a path."""
+    try:
+        return os.path.samestat(os.lstat(path), made)
+    except FileNotFoundError:
+        return False
+
+
+def sync(number: int) -> None:
+    """Syncs a file, where its file system can do that."""
+    try:
+        os.fsync(number)
+    except OSError as error:
+        if error.errno not in LACKING:
+            raise
+
+
 def sync_folder(path: str) -> None:
     """Syncs a folder, so that a name in it is on the disk. One that may not be read is left to the system."""
     try:
@@ -315,9 +402,6 @@ def sync_folder(path: str) -> None:
     except PermissionError:
         return
     try:
-        os.fsync(number)
-    except OSError as error:
-        if error.errno not in LACKING:
-            raise
+        sync(number)
     finally:
         os.close(number)

@@ -58,6 +58,10 @@ class JlsrecError(ValueError):
         self.marker = int(fault.marker)
         self.number = int(fault.number)
 
+    def __reduce__(self) -> tuple[object, ...]:
+        """So that it can be pickled, as one that is raised in another process is, and copied."""
+        return _error_again, (type(self), self.args, self.__dict__)
+
     def naming(self, number: int) -> JlsrecError:
         """The same error, whose text ends with the number that is at fault."""
         self.args = (f"{self}: {number}",)
@@ -68,6 +72,13 @@ class JlsrecError(ValueError):
         error = JlsrecError(self.status, self.fault)
         error.args = (f"frame {number}: {self}",)
         return error
+
+
+def _error_again(kind: type[JlsrecError], args: tuple[str, ...], values: dict[str, object]) -> JlsrecError:
+    """An error of this kind with this text and these values."""
+    error = kind.__new__(kind, *args)
+    error.__dict__.update(values)
+    return error
 
 
 def _has_v3() -> bool:

@@ -191,13 +191,13 @@ shutil.rmtree("out")
 environment = {**os.environ, "PYTHONPATH": f"{os.getcwd()}:{os.environ['PYTHONPATH']}"}
 command = [*COMMAND, "compress", "tree", "out", "--jobs", "2", "--report", "report.json"]
 status = ended(subprocess.Popen(command, stderr=open("told", "wb"), env=environment))
-case(f"a deadly file: {status} {told()}", status == 1 and "2/16: 3 workers died of it" in told())
+case(f"a deadly file: {status} {told()}", status == 1 and "2/16: 2 workers died of it" in told())
 case(
     "a deadly file: all others are there",
     files("out") == {path: data for path, data in whole.items() if path != "2/16"},
 )
 failures = json.loads(Path("report.json").read_text())["failures"]
-case(f"a deadly file: the report {failures}", failures == [{"path": "2/16", "why": "3 workers died of it"}])
+case(f"a deadly file: the report {failures}", failures == [{"path": "2/16", "why": "2 workers died of it"}])
 os.unlink("sitecustomize.py")
 is_whole("a deadly file, then", ended(start("compress", "tree", "out", "--jobs", "2")))
 

@@ -2,7 +2,11 @@
 
 from __future__ import annotations
 
+import concurrent.futures
+import copy
 import inspect
+import multiprocessing
+import pickle
 import pydoc
 import re
 import shutil
@@ -69,6 +73,11 @@ for name in jlsrec.__all__:
         for each in inspect.signature(told).parameters:
             case(f"{name} tells of {each}", re.search(rf"^ *(\w+ and )?{each}( and \w+)?: ", told.__doc__, re.MULTILINE))
 
+for call in (jlsrec.Recording.__init__, jlsrec.Recording.read, jlsrec.Writer.__init__):
+    told = " ".join(call.__doc__.split())
+    for each in [*inspect.signature(call).parameters][1:]:
+        case(f"{call.__qualname__} tells of {each}", re.search(rf"\b{each}( and \w+)?: |and {each}: ", told) is not None)
+
 for path in sorted(films.glob("*.p?m")):
     images = images_of(path)
     whole = coded(path)
@@ -120,6 +129,28 @@ refuses("no bytes", jlsrec.JlsrecError, "truncated", jlsrec.decode, b"")
 refuses("no codestream", jlsrec.JlsrecError, "SOI", jlsrec.decode, b"P5 1 1 255 x")
 refuses("a codestream cut off", jlsrec.JlsrecError, "truncated", jlsrec.decode, EXAMPLE_CODED[:-9])
 refuses("a header cut off", jlsrec.JlsrecError, "truncated", jlsrec.read_header, EXAMPLE_CODED[:20])
+
+
+def decode_all(codestreams: list[bytes]) -> list[np.ndarray]:
+    """Decodes in another process, which hands its errors on by pickle."""
+    with concurrent.futures.ProcessPoolExecutor(1, multiprocessing.get_context("fork")) as pool:
+        return list(pool.map(jlsrec.decode, codestreams, timeout=60))
+
+
+for what, data in (("bytes cut off", EXAMPLE_CODED[:-9]), ("no codestream", b"P5"), ("a frame's", EXAMPLE_CODED[:20])):
+    try:
+        jlsrec.decode(data)
+    except jlsrec.JlsrecError as error:
+        fault = error.of_frame(7) if what == "a frame's" else error
+        for kind, again in (("pickled", pickle.loads(pickle.dumps(fault))), ("copied", copy.copy(fault))):
+            names = ("args", "status", "component", "marker", "number")
+            same = [getattr(again, name) == getattr(fault, name) for name in names]
+            case(f"{what}, {kind}", type(again) is type(fault) and all(same))
+wrong = jlsrec.WrongIndex("film.jls.index", 3, "not of an index")
+again = pickle.loads(pickle.dumps(wrong))
+case("a wrong index, pickled", (type(again), str(again), again.line) == (jlsrec.WrongIndex, str(wrong), 3))
+case("by another process", (decode_all([EXAMPLE_CODED])[0] == EXAMPLE).all())
+refuses("an error in another process", jlsrec.JlsrecError, "truncated", decode_all, [EXAMPLE_CODED[:-9]])
 refuses("an array of another shape", ValueError, "out must be", jlsrec.decode, EXAMPLE_CODED, np.zeros((4, 5), np.uint8))
 refuses("an array that isn't whole", ValueError, "contiguous", jlsrec.decode, EXAMPLE_CODED, np.zeros((4, 8), np.uint8)[:, ::2])
 

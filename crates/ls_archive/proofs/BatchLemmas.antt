@@ -19,10 +19,10 @@ use Rattle.ls_archive.specs.declared.checking.batches.Batch.{Batch}
 use Rattle.ls_archive.specs.declared.checking.batches.Listed.{Listed}
 use Rattle.ls_archive.specs.declared.checking.batches.SoFar.{SoFar}
 use Rattle.ls_archive.specs.View.Checking.{Line, IsLine, IsGood, IsDamage}
-use Rattle.ls_archive.specs.View.Checks.{GaveAtMost, IsFound, HasLooked, HasChecked, IsChecked, Stops, Anything}
+use Rattle.ls_archive.specs.View.Checks.{GaveAtMost, IsFound, HasLooked, HasChecked, IsChecked, Stops, Fails, GoesOn}
 use Rattle.ls_archive.specs.View.Batches.{Place, line_of, IsTaken, AreTaken, ComesAfter, IsBatch, IsLookedAt, IsLooked, AreLooked, HasCheckedTo, LeadsOn, LeadsSomewhere, HasReadBeyond, HasReadBatches, fails_index, fails_recording}
 use Rattle.ls_film.proofs.AheadLemmas.{lent-back}
-use Rattle.ls_archive.proofs.CheckLemmas.{checked-more, checked-end, stops-after, stops-next-line, stops-reading}
+use Rattle.ls_archive.proofs.CheckLemmas.{checked-more, checked-end, stops-after, had-line, stops-next-line, stops-in-bytes, stops-at-end, fails-next-line, fails-in-bytes, fails-at-end}
 
 -- ---- lines that are taken
 
@@ -107,6 +107,15 @@ module _ (told told' : Option (List Finding)) (so_far so_far' : SoFar) (jobs : L
       let step = looked-step here.0 next jobs i job lt is here.2 in
       (step.0, one index recording found here.0 step.0 here.1 step.1, step.2)
 
+  -- the next job is left
+  pub leads-somewhere : (i : ℕ) (job : Listed) → LeadsOn told told' so_far so_far' jobs (drop i jobs) → i < length jobs → LeadsSomewhere told told' so_far jobs
+  leads-somewhere i job leads lt = (
+    so_far',
+    get_or jobs i job,
+    drop (i + 1) jobs,
+    subst (LeadsOn told told' so_far so_far' jobs) (at_drop_more (λ (js : List Listed). js) jobs i job lt) leads,
+  )
+
   -- for all of them
   pub leads-all : (i : ℕ) → LeadsOn told told' so_far so_far' jobs (drop i jobs) → length jobs ≤ i → LeadsOn told told' so_far so_far' jobs []
   leads-all i leads all = subst (LeadsOn told told' so_far so_far' jobs) (at_drop_all (λ (js : List Listed). js) jobs i all) leads
@@ -128,9 +137,13 @@ module _ (index recording : Option (List ℕ)) (found : Option (List Finding)) w
       }
 
   -- an allocation failed
-  pub stops-telling : (told told' : Option (List Finding)) (at : Place) (so_far : SoFar) → HasCheckedTo index recording found told at so_far → told' ≡ told → Stops index recording found told' fault.NoMemory
-  stops-telling told told' at so_far to same =
-      (at.number, stops-after index at.index recording at.recording found told told' at.number at.offset so_far.damaged Anything to.checked same (λ known. tt))
+  pub stops-telling : (told : Option (List Finding)) (at next : Place) (so_far : SoFar) (job : Listed) → HasCheckedTo index recording found told at so_far → IsLooked at next job
+      → Stops index recording found told fault.NoMemory
+  stops-telling told at next so_far job to is = (
+    at.number,
+    stops-after index at.index recording at.recording found told told at.number at.offset so_far.damaged (GoesOn recording) to.checked refl
+        (λ known. inl (had-line at.index next.index at.number at.offset (line_of job.line) is.is is.gave known)),
+  )
 
   -- for a batch
   module _ (told told' : Option (List Finding)) (so_far : SoFar) (index0 recording0 index' recording' : Option (List ℕ)) (batch : Batch) (jobs' : List Listed)
@@ -151,8 +164,8 @@ module _ (index recording : Option (List ℕ)) (found : Option (List Finding)) w
     -- or an allocation failed before that
     pub stops-batch : LeadsSomewhere told told' so_far jobs' → Stops index recording found told' fault.NoMemory
     stops-batch leads =
-        let there = leads.2 index recording found (record { index = index0; recording = recording0; number = so_far.number; offset = so_far.offset }) is.mid to-begun are in
-        stops-telling told' told' there.0 leads.0 there.1 refl
+        let there = leads.3 index recording found (record { index = index0; recording = recording0; number = so_far.number; offset = so_far.offset }) is.mid to-begun are in
+        stops-telling told' there.0 there.2.0 leads.0 leads.1 there.1 there.2.1
 
   -- ---- what comes after a batch
 
@@ -174,11 +187,26 @@ module _ (index recording : Option (List ℕ)) (found : Option (List Finding)) w
         )
 
     stops-either : (why : CheckFault) → ComesAfter at index' recording' (Fault why) → Stops index recording found told why
-    stops-either why (inl line) = stops-next-line index at.index recording at.recording found told at.number at.offset done.damaged why to.checked line
-    stops-either why (inr reading) = stops-reading index at.index recording at.recording found told at.number at.offset done.damaged why to.checked reading
+    stops-either why (inl line) =
+        stops-next-line index at.index index' recording at.recording recording' found told at.number at.offset done.damaged to.checked why line
+    stops-either why (inr (inl read)) =
+        stops-in-bytes index at.index index' recording at.recording recording' found told at.number at.offset done.damaged to.checked read.0 read.1 read.2 why read.3
+    stops-either why (inr (inr end)) =
+        stops-at-end index at.index index' recording at.recording recording' found told at.number at.offset done.damaged to.checked end.0 why end.1
 
     pub fault-comes : (why : CheckFault) → after ≡ Fault why → Stops index recording found told why
     fault-comes why is = stops-either why (subst (ComesAfter at index' recording') is comes)
+
+    fails-either : (why : CheckFault) → ComesAfter at index' recording' (Fault why) → Fails index index' recording recording' found told why
+    fails-either why (inl line) =
+        fails-next-line index at.index index' recording at.recording recording' found told at.number at.offset done.damaged to.checked why line
+    fails-either why (inr (inl read)) =
+        fails-in-bytes index at.index index' recording at.recording recording' found told at.number at.offset done.damaged to.checked read.0 read.1 read.2 why read.3
+    fails-either why (inr (inr end)) =
+        fails-at-end index at.index index' recording at.recording recording' found told at.number at.offset done.damaged to.checked end.0 why end.1
+
+    pub failure-comes : (why : CheckFault) → after ≡ Fault why → Fails index index' recording recording' found told why
+    failure-comes why is = fails-either why (subst (ComesAfter at index' recording') is comes)
 
 -- ---- reads that failed
 

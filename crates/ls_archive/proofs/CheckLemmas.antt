@@ -1,12 +1,12 @@
 -- What is read from an index and from a recording, and which codestreams are good.
-use Rattle.std.proofs.Common.{◌≡◌, ◌⊎◌, ◌<◌, ◌≤◌, ◌+◌, ℕ, Bool, true, false, inl, inr, List, [], ◌∷◌, ◌++◌, length, take, drop, Option, None, Some, Ok, Err, refl, sym, ap, subst, ◌∙◌, arith, append_assoc, append-nil, length-append}
+use Rattle.std.proofs.Common.{◌≡◌, ◌⊎◌, ◌<◌, ◌≤◌, ◌+◌, ℕ, Bool, true, false, inl, inr, List, [], ◌∷◌, ◌++◌, length, take, drop, Option, None, Some, Ok, Err, codes, refl, sym, ap, subst, ◌∙◌, arith, append_assoc, append-nil, length-append}
 use Rattle.std.proofs.lemmas.List.{take_at, take_all, drop_at, drop_all, drop-drop, length_push, length-drop}
 use Rattle.std.specs.Prelude.{◌↔◌, IsTrue}
 use Rattle.ls_film.specs.Film.{most_frames}
 use Rattle.ls_frame.specs.declared.frame.Kind.{Kind}
 use Rattle.ls_frame.specs.Picture.{Picture}
 use Rattle.ls_frame.specs.Parameters.{Parameters}
-use Rattle.ls_frame.specs.View.Known.{Tells, Gave, WasAtEnd, known}
+use Rattle.ls_frame.specs.View.Known.{Tells, Gave, HadBytes, WasAtEnd, known}
 use Rattle.ls_stream.specs.declared.faults.StreamFault.{StreamFault}
 use Rattle.ls_stream.specs.Grammar.{Spells}
 use Rattle.ls_stream.specs.View.Reading.{Take}
@@ -14,10 +14,10 @@ use Rattle.ls_stream.specs.View.Outlines.{Outline, outline_of, SpellingsHaveBoun
 use Rattle.ls_stream.proofs.StepLemmas.{same_ok}
 use Rattle.ls_archive.specs.Index.{Entry, line}
 use Rattle.ls_archive.specs.declared.checking.Finding.{Finding}
-use Rattle.ls_archive.specs.View.Checking.{Line, IsLine, AreLines, texts, HasLine, IsGood, IsOf, AreFound, size_of}
+use Rattle.ls_archive.specs.View.Checking.{Line, beginning, IsLine, AreLines, texts, HasLine, IsGood, IsOf, AreFound, size_of}
 use Rattle.ls_archive.specs.declared.checking.CheckFault.{CheckFault}
 use Rattle.ls_archive.specs.declared.checking.CheckFault.TheVariants as fault
-use Rattle.ls_archive.specs.View.Checks.{FindsMore, GaveAtMost, HasLooked, HasChecked, IsChecked, StopsAfter, BeginsOtherwise, BeginsWithLine, Anything, Stops, StopsNextLine, StopsReading}
+use Rattle.ls_archive.specs.View.Checks.{FindsMore, GaveAtMost, HasLooked, HasChecked, IsChecked, StopsAfter, BeginsOtherwise, BeginsWithLine, Anything, GoesOn, Stops, FailsInLine, FailsWithin, FailsInBytes, Fails, StopsNextLine, StopsReading}
 use Rattle.ls_archive.specs.View.Entries.{IsEntry}
 
 -- ---- reading
@@ -219,29 +219,79 @@ stops-after index mid recording half found some found' n offset damaged P run sa
       (subst (AreFound 0 0 (run.lines ++ []) (known recording)) (append-nil run.findings) (run.more_found told [] [] refl));
 }
 
--- at the next line
-pub stops-next-line : (index mid recording half : Option (List ℕ)) (found found' : Option (List Finding)) (n offset damaged : ℕ) (why : CheckFault)
-    → HasChecked index mid recording half found found' n offset damaged → StopsNextLine mid n offset why → Stops index recording found found' why
-stops-next-line index mid recording half found found' n offset damaged (fault.Line m) run stops =
-    subst (λ k. StopsAfter index recording found found' k (BeginsOtherwise k)) (sym stops.0)
-    (stops-after index mid recording half found found' found' n offset damaged (BeginsOtherwise n) run refl stops.1)
-stops-next-line index mid recording half found found' n offset damaged fault.IndexIo run stops =
-    (n, stops-after index mid recording half found found' found' n offset damaged Anything run refl (λ told. tt))
-stops-next-line index mid recording half found found' n offset damaged fault.Io run stops = absurd stops
-stops-next-line index mid recording half found found' n offset damaged fault.NoMemory run stops =
-    (n, stops-after index mid recording half found found' found' n offset damaged Anything run refl (λ told. tt))
-stops-next-line index mid recording half found found' n offset damaged fault.TooMany run stops = absurd stops
+-- a line has a byte
+line-some : (n offset : ℕ) (l : Line) → IsLine n offset l → 0 < length l.text
+line-some n offset l is = omega (arith, ap length is.text_is, length-append (beginning n offset l.size ++ is.rest) (codes "\n"))
 
--- at the recording
-pub stops-reading : (index mid recording half : Option (List ℕ)) (found found' : Option (List Finding)) (n offset damaged : ℕ) (why : CheckFault)
-    → HasChecked index mid recording half found found' n offset damaged → StopsReading why → Stops index recording found found' why
-stops-reading index mid recording half found found' n offset damaged (fault.Line m) run stops = absurd stops
-stops-reading index mid recording half found found' n offset damaged fault.IndexIo run stops = absurd stops
-stops-reading index mid recording half found found' n offset damaged fault.Io run stops =
-    (n, stops-after index mid recording half found found' found' n offset damaged Anything run refl (λ told. tt))
-stops-reading index mid recording half found found' n offset damaged fault.NoMemory run stops =
-    (n, stops-after index mid recording half found found' found' n offset damaged Anything run refl (λ told. tt))
-stops-reading index mid recording half found found' n offset damaged fault.TooMany run stops = absurd stops
+pub had-line : (mid index' : Option (List ℕ)) (n offset : ℕ) (l : Line) → IsLine n offset l → Gave mid index' (λ bytes. l.text ≡ bytes) → HadBytes mid
+had-line mid index' n offset l is gave told =
+    let read = gave told in
+    omega (arith, line-some n offset l is, ap length read.2, length-append read.1 (known index'), ap length read.3)
+
+module _ (index mid index' recording half half' : Option (List ℕ)) (found found' : Option (List Finding)) (n offset damaged : ℕ)
+    (run : HasChecked index mid recording half found found' n offset damaged) where
+  after-lines : (P : ℕ → List ℕ → Type 0) → (Tells mid → P offset (known mid)) → StopsAfter index recording found found' n P
+  after-lines P follows = stops-after index mid recording half found found' found' n offset damaged P run refl follows
+
+  -- at the next line
+  pub stops-next-line : (why : CheckFault) → StopsNextLine mid index' n offset why → Stops index recording found found' why
+  stops-next-line (fault.Line m) stops = subst (λ k. StopsAfter index recording found found' k (BeginsOtherwise k)) (sym stops.0) (after-lines (BeginsOtherwise n) stops.1)
+  stops-next-line fault.IndexIo stops = (n, after-lines Anything (λ told. tt))
+  stops-next-line fault.Io stops = absurd stops
+  stops-next-line fault.NoMemory stops = (n, after-lines (GoesOn recording) (λ told. inl (stops told)))
+  stops-next-line fault.TooMany stops = absurd stops
+
+  pub fails-next-line : (why : CheckFault) → StopsNextLine mid index' n offset why → Fails index index' recording half' found found' why
+  fails-next-line (fault.Line m) stops = tt
+  fails-next-line fault.IndexIo stops = (n, after-lines (FailsInLine index') stops)
+  fails-next-line fault.Io stops = absurd stops
+  fails-next-line fault.NoMemory stops = tt
+  fails-next-line fault.TooMany stops = tt
+
+  within : (most : ℕ) → Gave half half' (λ front. length front < most) → FailsWithin recording half' most offset
+  within most gave told =
+      let read = gave (run.tells told) in
+      (read.0, read.1, sym (run.left told) ∙ read.2, read.3)
+
+  -- in the bytes of a line
+  module _ (l : Line) (is : IsLine n offset l) (gave : Gave mid index' (λ bytes. l.text ≡ bytes)) where
+    pub stops-in-bytes : (why : CheckFault) → StopsReading half half' l.size why → Stops index recording found found' why
+    stops-in-bytes (fault.Line m) stops = absurd stops
+    stops-in-bytes fault.IndexIo stops = absurd stops
+    stops-in-bytes fault.Io stops = (n, after-lines Anything (λ told. tt))
+    stops-in-bytes fault.NoMemory stops = (n, after-lines (GoesOn recording) (λ told. inl (had-line mid index' n offset l is gave told)))
+    stops-in-bytes fault.TooMany stops = absurd stops
+
+    pub fails-in-bytes : (why : CheckFault) → StopsReading half half' l.size why → Fails index index' recording half' found found' why
+    fails-in-bytes (fault.Line m) stops = tt
+    fails-in-bytes fault.IndexIo stops = absurd stops
+    fails-in-bytes fault.Io stops = (
+      n,
+      after-lines (FailsInBytes index' recording half' n) (λ told.
+          let read = gave told in
+          inl (l, is, read.2 ∙ ap (λ s. s ++ known index') (sym read.3), within l.size stops)),
+    )
+    fails-in-bytes fault.NoMemory stops = tt
+    fails-in-bytes fault.TooMany stops = tt
+
+  -- at the byte after those of all lines
+  module _ (end : WasAtEnd mid index') where
+    pub stops-at-end : (why : CheckFault) → StopsReading half half' 1 why → Stops index recording found found' why
+    stops-at-end (fault.Line m) stops = absurd stops
+    stops-at-end fault.IndexIo stops = absurd stops
+    stops-at-end fault.Io stops = (n, after-lines Anything (λ told. tt))
+    stops-at-end fault.NoMemory stops = (
+      n,
+      after-lines (GoesOn recording) (λ known_index. inr (λ told. omega (arith, stops (run.tells told), ap length (run.left told), length-drop offset (known recording)))),
+    )
+    stops-at-end fault.TooMany stops = absurd stops
+
+    pub fails-at-end : (why : CheckFault) → StopsReading half half' 1 why → Fails index index' recording half' found found' why
+    fails-at-end (fault.Line m) stops = tt
+    fails-at-end fault.IndexIo stops = absurd stops
+    fails-at-end fault.Io stops = (n, after-lines (FailsInBytes index' recording half' n) (λ told. inr ((end told).1, within 1 stops)))
+    fails-at-end fault.NoMemory stops = tt
+    fails-at-end fault.TooMany stops = tt
 
 -- a line was read after the most that an index may have
 pub begins-with : (n offset : ℕ) (mid index' : Option (List ℕ)) (l : Line) → IsLine n offset l → Gave mid index' (λ read. l.text ≡ read) → Tells mid → BeginsWithLine n offset (known mid)

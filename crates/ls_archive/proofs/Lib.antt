@@ -9,6 +9,7 @@ pub mod FrontLineLemmas
 pub mod IndexLemmas
 pub mod LineLemmas
 pub mod NextLineLemmas
+pub mod PlaceLemmas
 pub mod VerdictLaws
 pub mod VerdictLemmas
 pub mod VerifyLemmas

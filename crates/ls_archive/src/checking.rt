@@ -2,18 +2,18 @@
 //!
 //! A line of the index says at which offset its codestream begins and how many bytes it has. So damage, even to
 //! markers, doesn't keep any other codestream from being checked.
-ghost use Rattle.std.specs.Prelude.{if◌then◌else◌, ◌≡◌, ◌≢◌, ◌⊎◌, ◌+◌, ◌*◌, ◌^◌, ◌<◌, ◌≤◌, ◌++◌, ◌∷◌, ◌↔◌, ℕ, List, [], Option, Some, IsTrue, decimal, flat_map, IfOk, IfErr, IfSome, IfNone, OnOk, OnErr, MatchOption, codes, length, true, false};
+ghost use Rattle.std.specs.Prelude.{if◌then◌else◌, ◌≡◌, ◌≢◌, ◌⊎◌, ◌+◌, ◌*◌, ◌^◌, ◌<◌, ◌≤◌, ◌++◌, ◌∷◌, ◌↔◌, ℕ, List, [], Option, Some, IsTrue, decimal, flat_map, IsSome, IfOk, IfErr, IfSome, IfNone, OnOk, OnErr, MatchOption, codes, length, true, false};
 ghost use Rattle.ls_frame.specs.declared.frame.Kind.{Kind};
 ghost use Rattle.ls_frame.specs.Picture.{Picture};
 ghost use Rattle.ls_frame.specs.View.Devices.{count_after, failed_read};
-ghost use Rattle.ls_frame.specs.View.Known.{Tells, Gave, WasAtEnd, known};
+ghost use Rattle.ls_frame.specs.View.Known.{Tells, Gave, HadBytes, WasAtEnd, known};
 ghost use Rattle.ls_film.specs.Film.{most_frames};
 ghost use Rattle.ls_film.specs.Listing.{kind_text, column};
 ghost use Rattle.ls_stream.specs.Grammar.{Spells, most_bytes};
 ghost use Rattle.ls_film.specs.View.Steps.{failed_by};
-ghost use Rattle.ls_archive.specs.View.Checking.{Line, beginning, AreNumbers, EndsColumn, IsSum, sum_at_end, AreColumns, IsLine, HasLine, IsGood, IsDamage};
+ghost use Rattle.ls_archive.specs.View.Checking.{Line, HasNoLineFeed, beginning, AreNumbers, EndsColumn, IsSum, sum_at_end, AreColumns, IsLine, HasEntry, HasLine, IsGood, IsDamage};
 ghost use Rattle.ls_archive.specs.Index.{line};
-ghost use Rattle.ls_archive.specs.View.Checks.{FindsMore, GaveAtMost, IsOneLine, IsFrontLine, IsFound, HasLooked, HasChecked, IsChecked, StopsNextLine, StopsReading, Stops, blames_index, blames_recording};
+ghost use Rattle.ls_archive.specs.View.Checks.{FindsMore, GaveAtMost, IsOneLine, IsFrontLine, IsFound, HasLooked, HasChecked, IsChecked, StopsNextLine, StopsReading, Stops, Fails, blames_index, blames_recording};
 ghost use Rattle.ls_archive.specs.View.Batches.{HasReadBeyond, HasReadBatches};
 ghost use Rattle.ls_archive.specs.declared.checking.Finding.{Finding};
 
@@ -119,7 +119,8 @@ pub enum CheckFault {
     /// A read of the recording failed.
     #[error("read failed")]
     Io,
-    /// An allocation failed.
+    /// An allocation failed. Never comes once the whole index is read and the recording has nothing after its
+    /// codestreams.
     #[error("no memory")]
     NoMemory,
     /// The index has more than `ls_film::MOST_FRAMES` lines: one is numbered 4,294,967,295.
@@ -150,8 +151,9 @@ impl From<AllocError> for CheckFault {
 /// A line has the form that `write_index` writes: number, offset and size of its codestream, the kind, eight numbers,
 /// and the sum or nothing, with one blank between, and LF; the offset is where the codestream of the line before ends.
 /// One codestream is in memory at a time. If the bytes of both readers are known (as in memory), the clauses say what
-/// was found in them; if those received by `findings` are, which were reported. After a fault the places of both
-/// readers are unspecified.
+/// was found in them; if those received by `findings` are, which were reported. After `IndexIo` and `Io` the damage of
+/// all codestreams that were read before the failed read was reported. After any other fault the places of both readers
+/// are unspecified.
 pub fn check<I: Feed, R: Feed, F: Findings>(
     alloc: Global,
     index: &mut I,
@@ -160,6 +162,7 @@ pub fn check<I: Feed, R: Feed, F: Findings>(
 ) -> Result<Checked, CheckFault>
     ensures checked { IfOk result (IsChecked (I.remaining index.old) (R.remaining recording.old) (F.found findings.old) (F.found findings.new)) }
     ensures stops { IfErr result (Stops (I.remaining index.old) (R.remaining recording.old) (F.found findings.old) (F.found findings.new)) }
+    ensures fails { IfErr result (Fails (I.remaining index.old) (I.remaining index.new) (R.remaining recording.old) (R.remaining recording.new) (F.found findings.old) (F.found findings.new)) }
     ensures index_reads { I.failed_reads index.new ≡ count_after (failed_by blames_index result) (I.failed_reads index.old) }
     ensures reads { R.failed_reads recording.new ≡ count_after (failed_by blames_recording result) (R.failed_reads recording.old) }
 {
@@ -182,6 +185,7 @@ pub fn check_by<Rt: Threads + Sync, I: Feed, R: Feed, F: Findings>(
 ) -> Result<Checked, CheckFault>
     ensures checked { IfOk result (IsChecked (I.remaining index.old) (R.remaining recording.old) (F.found findings.old) (F.found findings.new)) }
     ensures stops { IfErr result (Stops (I.remaining index.old) (R.remaining recording.old) (F.found findings.old) (F.found findings.new)) }
+    ensures fails { IfErr result (Fails (I.remaining index.old) (I.remaining index.new) (R.remaining recording.old) (R.remaining recording.new) (F.found findings.old) (F.found findings.new)) }
     ensures index_reads { HasReadBeyond (failed_by blames_index result) (I.failed_reads index.old) (I.failed_reads index.new) result }
     ensures reads { HasReadBeyond (failed_by blames_recording result) (R.failed_reads recording.old) (R.failed_reads recording.new) result }
 {
@@ -200,6 +204,7 @@ fn check_all<L: Looking, I: Feed, R: Feed, F: Findings>(
     requires { L.may_run }
     ensures checked { IfOk result (IsChecked (I.remaining index.old) (R.remaining recording.old) (F.found findings.old) (F.found findings.new)) }
     ensures stops { IfErr result (Stops (I.remaining index.old) (R.remaining recording.old) (F.found findings.old) (F.found findings.new)) }
+    ensures fails { IfErr result (Fails (I.remaining index.old) (I.remaining index.new) (R.remaining recording.old) (R.remaining recording.new) (F.found findings.old) (F.found findings.new)) }
     ensures index_reads { HasReadBatches L.most (failed_by blames_index result) (I.failed_reads index.old) (I.failed_reads index.new) result }
     ensures reads { HasReadBatches L.most (failed_by blames_recording result) (R.failed_reads recording.old) (R.failed_reads recording.new) result }
 {
@@ -243,6 +248,9 @@ fn end_at_most<I: Feed, R: Feed>(
     ensures stops { (lines whole : Option (List ℕ)) (found found' : Option (List Finding))
         → HasChecked lines (I.remaining index.old) whole (R.remaining recording.old) found found' most_frames offset damaged
         → IfErr result (Stops lines whole found found') }
+    ensures fails { (lines whole : Option (List ℕ)) (found found' : Option (List Finding))
+        → HasChecked lines (I.remaining index.old) whole (R.remaining recording.old) found found' most_frames offset damaged
+        → IfErr result (Fails lines (I.remaining index.new) whole (R.remaining recording.new) found found') }
     ensures index_reads { I.failed_reads index.new ≡ count_after (failed_by blames_index result) (I.failed_reads index.old) }
     ensures reads { R.failed_reads recording.new ≡ count_after (failed_by blames_recording result) (R.failed_reads recording.old) }
 {
@@ -282,7 +290,7 @@ pub(crate) fn next_line<I: Feed>(
     ensures gave { IfOk result (λ next. IfSome next (λ line. Gave (I.remaining index.old) (I.remaining index.new) (λ bytes. line.text.items ≡ bytes))) }
     ensures end { IfOk result (λ next. IfNone next (WasAtEnd (I.remaining index.old) (I.remaining index.new))) }
     ensures blame { IfErr result (λ fault. fault ≢ CheckFault.Io) }
-    ensures stops { IfErr result (StopsNextLine (I.remaining index.old) number offset) }
+    ensures stops { IfErr result (StopsNextLine (I.remaining index.old) (I.remaining index.new) number offset) }
     ensures failures { I.failed_reads index.new ≡ count_after (failed_by blames_index result) (I.failed_reads index.old) }
 {
     let text = match take_line(alloc, index) {
@@ -308,6 +316,8 @@ fn take_line<I: Feed>(alloc: Global, reader: &mut I) -> Result<Option<Vec<u8>>, 
     ensures front { IfOk result (λ next. IfSome next (λ line. Tells (I.remaining reader.old) → IsFrontLine (known (I.remaining reader.old)) line.items)) }
     ensures short { IfOk result (λ next. IfSome next (λ line. length line.items ≤ 1024)) }
     ensures end { IfOk result (λ next. IfNone next (WasAtEnd (I.remaining reader.old) (I.remaining reader.new))) }
+    ensures io { IfErr result (λ fault. fault ≡ FeedFault.Io → Gave (I.remaining reader.old) (I.remaining reader.new) HasNoLineFeed) }
+    ensures memory { IfErr result (λ fault. fault ≡ FeedFault.NoMemory → HadBytes (I.remaining reader.old)) }
     ensures failures { I.failed_reads reader.new ≡ count_after (failed_read result) (I.failed_reads reader.old) }
 {
     let mut line = Vec::new(alloc);
@@ -447,7 +457,7 @@ fn after_number(text: &[u8]) -> Option<&[u8]>
 fn take_bytes<R: Feed>(alloc: Global, reader: &mut R, most: usize) -> Result<Vec<u8>, CheckFault>
     ensures taken { IfOk result (λ bytes. GaveAtMost (R.remaining reader.old) (R.remaining reader.new) most bytes.items) }
     ensures blame { IfErr result (λ fault. fault ≢ CheckFault.IndexIo) }
-    ensures stops { IfErr result StopsReading }
+    ensures stops { IfErr result (StopsReading (R.remaining reader.old) (R.remaining reader.new) most) }
     ensures failures { R.failed_reads reader.new ≡ count_after (failed_by blames_recording result) (R.failed_reads reader.old) }
 {
     let mut bytes = Vec::new(alloc);
@@ -466,7 +476,7 @@ fn take_bytes<R: Feed>(alloc: Global, reader: &mut R, most: usize) -> Result<Vec
 fn has_more<R: Feed>(alloc: Global, reader: &mut R) -> Result<bool, CheckFault>
     ensures more { IfOk result (λ more. Tells (R.remaining reader.old) → IsTrue more ↔ (0 < length (known (R.remaining reader.old)))) }
     ensures blame { IfErr result (λ fault. fault ≢ CheckFault.IndexIo) }
-    ensures stops { IfErr result StopsReading }
+    ensures stops { IfErr result (StopsReading (R.remaining reader.old) (R.remaining reader.new) 1) }
     ensures failures { R.failed_reads reader.new ≡ count_after (failed_by blames_recording result) (R.failed_reads reader.old) }
 {
     let bytes = take_bytes(alloc, reader, 1)?;
@@ -487,6 +497,7 @@ fn tell_damage<F: Findings>(
         (F.found findings.old) (F.found findings.new)) }
     ensures few { IfOk result (λ damaged. damaged ≤ 1) }
     ensures none { OnErr result (F.found findings.new ≡ F.found findings.old) }
+    ensures memory { OnErr result (IsSome damage) }
 {
     let Some(damage) = damage else {
         return Ok(0);
@@ -512,6 +523,7 @@ fn damage_of(
     ensures good { IfOk result (λ found. IfNone found (IsGood number offset line.now.text.items bytes.items)) }
     ensures damaged { IfOk result (λ found. IfSome found (λ _. IsGood number offset line.now.text.items bytes.items → ⊥)) }
     ensures damage { IfOk result (λ found. IfSome found (IsDamage number offset (record { text = line.now.text.items; size = line.now.size; sum = line.now.sum }) bytes.items)) }
+    ensures memory { OnErr result (HasEntry bytes.items) }
 {
     outlines_follow_the_grammar();
     let is_short = bytes.len() < line.size as usize;
@@ -530,7 +542,8 @@ fn damage_of(
 
 /// Converts a fault of decoding to `Damage`; fails if it is `NoMemory`.
 fn undecoded(fault: StreamFault) -> Result<Option<Damage>, AllocError>
-    ensures { IfOk result (λ found. (fault ≢ StreamFault.NoMemory) × (found ≡ Some (Damage.Fault fault))) }
+    ensures found { IfOk result (λ found. (fault ≢ StreamFault.NoMemory) × (found ≡ Some (Damage.Fault fault))) }
+    ensures memory { OnErr result (fault ≡ StreamFault.NoMemory) }
 {
     if fault == StreamFault::NoMemory {
         return Err(AllocError);

@@ -1,15 +1,15 @@
 //! Writes the index of a recording while the recording is being written.
-ghost use Rattle.std.specs.Prelude.{◌≡◌, ◌≤◌, ◌<◌, ◌+◌, ◌*◌, ◌^◌, ◌++◌, List, [], length, take, None, OnOk, OnErr, IfOk, IfErr, IfSome, IfNone, is_err};
+ghost use Rattle.std.specs.Prelude.{◌≡◌, ◌≤◌, ◌<◌, ◌+◌, ◌*◌, ◌^◌, ◌++◌, ℕ, List, [], length, take, Option, None, OnOk, OnErr, IfOk, IfErr, IfSome, IfNone, MatchResult, is_err};
 ghost use Rattle.std.specs.Io.{WritesAtMost};
-ghost use Rattle.std.specs.Io.KnownBytes.{Keeps, WriteAppends};
+ghost use Rattle.std.specs.Io.KnownBytes.{Appends, Keeps, WriteAppends};
 ghost use Rattle.ls_frame.specs.View.Devices.{count_after};
 ghost use Rattle.ls_stream.specs.Grammar.{most_bytes};
 ghost use Rattle.ls_film.specs.Film.{most_frames};
 ghost use Rattle.ls_film.specs.View.Steps.{failed_by};
 ghost use Rattle.ls_archive.specs.View.Entries.{IsEntry};
 ghost use Rattle.ls_archive.specs.View.Indexing.{blames_writer};
-ghost use Rattle.ls_archive.specs.View.Followed.{nothing, holding, stepped};
-ghost use Rattle.ls_archive.specs.View.Following.{index_of, followed, recording_of, following, broken, HasFollowed, SpellNoFrame, FollowsOn, StopsFollowing, IsOfWriting, IsUntold, IsTold};
+ghost use Rattle.ls_archive.specs.View.Followed.{nothing, holding, stepped, HoldsBack};
+ghost use Rattle.ls_archive.specs.View.Following.{index_of, followed, recording_of, following, broken, HasFollowed, SpellNoFrame, FollowsOn, StopsFollowing, IsOfWriting, IsUntold, IsTold, HasIndexed, HasRecorded, IsComplete};
 
 use crate::entry::Indexed;
 use crate::faults::IndexFault;
@@ -92,9 +92,10 @@ impl Progress {
 /// written.
 ///
 /// A line is written once the bytes since the last codestream, those of this call included, are complete by their
-/// markers and headers, as `write_index` requires. It is the line that `write_index` writes, with its sum. After each
-/// call the bytes that are held back aren't a codestream of a frame. So a recording of codestreams of frames gets a
-/// complete index if each codestream ends where the bytes of a call end, as when each is written by a call of its own.
+/// markers and headers, as `write_index` requires. It is the line that `write_index` writes, with its sum. Then no bytes
+/// are held back; after any other call those of the call are held back too, and aren't a codestream of a frame. So a
+/// recording of codestreams of frames gets a complete index if each codestream ends where the bytes of a call end, as
+/// when each is written by a call of its own.
 #[derive(Drop)]
 pub struct Follower<I> {
     alloc: Global,
@@ -125,6 +126,7 @@ impl<I: Outlet> Follower<I> {
         ensures follows { OnOk result (FollowsOn bytes.now
             (I.contents (index_of self.old)) (I.contents (index_of self.new)) (followed self.old) (followed self.new)) }
         ensures waits { OnOk result (SpellNoFrame (followed self.new).pending) }
+        ensures holds { OnOk result (HoldsBack bytes.now (followed self.old) (followed self.new)) }
         ensures stops { IfErr result (StopsFollowing bytes.now
             (I.contents (index_of self.old)) (I.contents (index_of self.new)) (followed self.old)) }
         ensures kinds { IfErr result IsOfWriting }
@@ -163,6 +165,10 @@ impl<I: Outlet> Follower<I> {
 /// As a writer it is the recording's: it takes bytes and fails as the recording's writer does. Exactly the bytes that
 /// the recording's writer takes of each call are followed. If the index fails, the recording goes on without it;
 /// `into_parts` returns why.
+///
+/// So, over all calls: if the index didn't fail, its lines are exactly those of the codestreams of which the recording
+/// consists, up to the bytes that are held back; if none are, it is the index that `write_index` writes for the
+/// recording, with sums.
 #[derive(Drop)]
 pub struct Indexing<W, I> {
     recording: W,
@@ -176,6 +182,8 @@ impl<W: Outlet, I: Outlet> Indexing<W, I> {
         ensures recording { recording_of result ≡ recording }
         ensures index { following result ≡ index }
         ensures unbroken { broken result ≡ None }
+        ensures begins { (begun : Option (List ℕ)) → IfSome index (λ f. HasFollowed [] begun (I.contents (index_of f)) (followed f))
+            → HasRecorded W.contents I.contents (W.contents recording) begun [] result }
     {
         Indexing {
             recording,
@@ -185,10 +193,16 @@ impl<W: Outlet, I: Outlet> Indexing<W, I> {
     }
 
     /// Returns the recording's writer, its index, and why the index stopped early, if it did.
+    ///
+    /// What was written over all calls stands in the recording, and its index is of exactly these bytes.
     pub fn into_parts(self) -> (W, Option<Follower<I>>, Option<IndexFault>)
         ensures recording { result.0 ≡ recording_of self }
         ensures index { result.1 ≡ following self }
         ensures fault { result.2 ≡ broken self }
+        ensures recorded { (start begun : Option (List ℕ)) (bytes : List ℕ) → HasRecorded W.contents I.contents start begun bytes self
+            → Appends start (W.contents result.0) bytes × HasIndexed I.contents begun bytes result.1 result.2 }
+        ensures complete { (start begun : Option (List ℕ)) (bytes : List ℕ) → HasRecorded W.contents I.contents start begun bytes self
+            → IsComplete I.contents begun bytes result.1 result.2 }
     {
         (self.recording, self.index, self.fault)
     }
@@ -216,6 +230,9 @@ impl<W: Outlet, I: Outlet> Write for Indexing<W, I> {
         ensures bytes { WriteAppends (W.contents (recording_of self.old)) (W.contents (recording_of self.new)) result buf.now }
         ensures told { IfOk result (λ taken. IsTold I.contents (take taken buf.now) (following self.old) (broken self.old) (following self.new) (broken self.new)) }
         ensures untold { OnErr result (IsUntold self.old self.new) }
+        ensures recorded { (start begun : Option (List ℕ)) (bytes : List ℕ) → HasRecorded W.contents I.contents start begun bytes self.old
+            → MatchResult result (λ taken. HasRecorded W.contents I.contents start begun (bytes ++ take taken buf.now) self.new)
+            (λ _. HasRecorded W.contents I.contents start begun bytes self.new) }
     {
         let taken = self.recording.write(buf)?;
         self.tell(&buf[..taken]);
@@ -225,6 +242,8 @@ impl<W: Outlet, I: Outlet> Write for Indexing<W, I> {
     fn flush(&mut self) -> io::Result<()>
         ensures bytes { Keeps (W.contents (recording_of self.old)) (W.contents (recording_of self.new)) }
         ensures untold { IsUntold self.old self.new }
+        ensures recorded { (start begun : Option (List ℕ)) (bytes : List ℕ) → HasRecorded W.contents I.contents start begun bytes self.old
+            → HasRecorded W.contents I.contents start begun bytes self.new }
     {
         self.recording.flush()
     }
@@ -240,6 +259,9 @@ impl<W: Outlet, I: Outlet> Outlet for Indexing<W, I> {
         ensures failures { W.failed_writes (recording_of self.new) ≡ count_after (is_err result) (W.failed_writes (recording_of self.old)) }
         ensures told { IfOk result (λ taken. IsTold I.contents (take taken buf.now) (following self.old) (broken self.old) (following self.new) (broken self.new)) }
         ensures untold { OnErr result (IsUntold self.old self.new) }
+        ensures recorded { (start begun : Option (List ℕ)) (bytes : List ℕ) → HasRecorded W.contents I.contents start begun bytes self.old
+            → MatchResult result (λ taken. HasRecorded W.contents I.contents start begun (bytes ++ take taken buf.now) self.new)
+            (λ _. HasRecorded W.contents I.contents start begun bytes self.new) }
     {
         let taken = self.recording.give(buf)?;
         self.tell(&buf[..taken]);

@@ -5,7 +5,7 @@ ghost use Rattle.ls_frame.specs.View.Devices.{count_after};
 ghost use Rattle.ls_film.specs.View.Steps.{failed_by};
 ghost use Rattle.ls_salvage.specs.View.Ends.{is_io};
 ghost use Rattle.ls_archive.specs.View.Checks.{blames_index, blames_recording};
-ghost use Rattle.ls_archive.specs.View.Places.{GaveStanding, IsSmall};
+ghost use Rattle.ls_archive.specs.View.Places.{IsSaidBy, StopsInIndex, GaveStanding, IsSmall};
 
 use crate::checking::{CheckFault, next_line};
 use crate::entry::Indexed;
@@ -34,6 +34,8 @@ pub struct Wanted {
 ///
 /// A line must have the form that `check` requires, and a fault means what it means there; `Io` never occurs.
 pub fn read_index<I: Feed>(alloc: Global, index: &mut I) -> Result<Vec<Wanted>, CheckFault>
+    ensures wanted { IfOk result (λ wanted. IsSaidBy (I.remaining index.old) wanted.items) }
+    ensures stops { IfErr result (StopsInIndex (I.remaining index.old) (I.remaining index.new)) }
     ensures reads { I.failed_reads index.new ≡ count_after (failed_by blames_index result) (I.failed_reads index.old) }
 {
     let mut wanted = Vec::new(alloc);

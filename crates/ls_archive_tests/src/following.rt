@@ -3,6 +3,7 @@ use ls_frame::{Counted, write_bytes};
 use ls_testing::films::TWO_CODESTREAMS;
 use ls_testing::{Mishap, Sink};
 use std::alloc::Global;
+use std::io::Write;
 use std::process::Abort;
 
 /// The lines of `TWO_CODESTREAMS`. The sums are those of `sha256sum`.
@@ -104,4 +105,31 @@ fn an_index_that_fails_leaves_the_recording_whole_with_ample_memory(rt: HostRunt
     for call in 0..TWO_LINES.len() {
         check_failed_write(&rt, rt.alloc(), call);
     }
+}
+
+/// Writes a recording of two codestreams by one plain `write` each, with a flush after it, and its index. The last
+/// component of the answer says whether all of this succeeded.
+fn follow_plainly(alloc: Global) -> (Sink, Option<Sink>, bool) {
+    let index = Counted::new(Sink::new(4096, Mishap::Nothing));
+    let recording = Counted::new(Sink::new(4096, Mishap::Nothing));
+    let mut writer = Indexing::new(recording, Some(Follower::new(alloc, index)));
+    let (first, second) = TWO_CODESTREAMS.split_at(28);
+    let mut all = true;
+    for codestream in [first, second] {
+        let written = writer.write(codestream);
+        all = all && written.is_ok() && writer.flush().is_ok();
+    }
+    let (recording, follower, broken) = writer.into_parts();
+    let index = follower.map(|follower| follower.into_inner().into_inner());
+    (recording.into_inner(), index, all && broken.is_none())
+}
+
+#[test]
+fn plain_writes_are_followed_and_flushes_change_nothing_with_ample_memory(rt: HostRuntime) {
+    let (recording, index, all) = follow_plainly(rt.alloc());
+    let index = index.expect(&rt, "an index");
+    assert_eq!(&rt;
+        (recording.written(), index.written(), all),
+        (TWO_CODESTREAMS, TWO_LINES, true)
+    );
 }

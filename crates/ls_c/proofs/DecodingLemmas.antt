@@ -30,6 +30,14 @@ deep_within most f room deep = grind (arith, nat_tests)
 long_within : (most : ℕ) (f : Picture) (room : ℕ) → f.maxval ≤ most → room < length f.samples → within most f room ≡ Some refusal.NoRoom
 long_within most f room shallow long = grind (arith, nat_tests)
 
+-- bytes have one form
+pub same_form : (bytes : List ℕ) (form given : JlsrecForm) → HaveForm bytes form → HaveForm bytes given → given ≡ form
+same_form bytes form given has other = sym (has.form_is ∙ other.only has.opened has.of_bytes has.says)
+
+-- if it fits, each of their forms does
+abbrev pub AllFit : ℕ → ℕ → List ℕ → Type 0
+AllFit most room bytes = (given : JlsrecForm) → HaveForm bytes given → (given.maxval ≤ most) × (samples_of given ≤ room)
+
 -- ---- what was decoded
 
 pub decoded : (most : ℕ) (bytes old new : List ℕ) (form : JlsrecForm) (used : ℕ) (fault : JlsrecFault) (f : Picture) → f.maxval ≤ most → length f.samples ≤ length old
@@ -48,6 +56,12 @@ decoded most bytes old new form used fault f shallow few says is has inside spel
   faulty = λ high. absurd (omega (arith, high));
   no_room = λ two. absurd (omega (arith, two));
   too_deep = λ fourteen. absurd (omega (arith, fourteen));
+  deep = λ given other deeper.
+      let same = same_form bytes form given has other in
+      absurd (omega (arith, ap (λ (x : JlsrecForm). x.maxval) same, is.maxval, shallow, deeper));
+  long = λ given other low longer.
+      let same = same_form bytes form given has other in
+      absurd (omega (arith, ap samples_of same, frame_samples f form spelled.frame is, few, longer));
   memory = λ one. absurd (omega (arith, one));
   statuses = inl refl;
   kept = λ some _. absurd (some refl);
@@ -80,15 +94,17 @@ first_in bytes first high found = elim found [ inl memory ↦ absurd (not_memory
 -- a fault: of the opening, or after it, where an allocation may fail too
 pub stopped : (most : ℕ) (bytes old new : List ℕ) (form : JlsrecForm) (used : ℕ) (fault : JlsrecFault) (first : StreamFault)
     → ((front rest : List ℕ) (f : Picture) → bytes ≡ front ++ rest → Spells front f → first ≡ stream.NoMemory)
-    → (first ≡ stream.NoMemory) ⊎ IsFirstFault bytes first → (first ≡ stream.NoMemory → HaveFitting most (length old) bytes)
+    → (first ≡ stream.NoMemory) ⊎ IsFirstFault bytes first → AllFit most (length old) bytes → (first ≡ stream.NoMemory → HaveFitting most (length old) bytes)
     → (first ≡ stream.NoMemory → new ≡ old) → KeepsBeyond bytes old new → fault ≡ details_of first → used ≡ 0 → form ≡ no_form
     → IsDecoding most bytes old new form used fault (fault_number first)
-stopped most bytes old new form used fault first only found memory kept beyond says unused formless = record {
+stopped most bytes old new form used fault first only found fit memory kept beyond says unused formless = record {
   done = λ zero. absurd (omega (arith, fault_some first, zero));
   complete = λ front rest f e s. inl (ap fault_number (only front rest f e s));
   faulty = λ high. (first, refl, says, first_in bytes first high found, not_memory first high);
   no_room = λ two. absurd (fault_not_two first two);
   too_deep = λ fourteen. absurd (not_fourteen first fourteen);
+  deep = λ given other deeper. let fits : given.maxval ≤ most = (fit given other).0 in absurd (omega (arith, fits, deeper));
+  long = λ given other low longer. let fits : samples_of given ≤ length old = (fit given other).1 in absurd (omega (arith, fits, longer));
   memory = λ one. memory (memory_is_one first one);
   statuses = statuses_of first;
   kept = λ _ low. elim (fault_above first) [ inl e ↦ kept e | inr above ↦ absurd (omega (arith, low, above)) ];
@@ -108,6 +124,10 @@ deep most bytes old form used fault has deeper says none unused = record {
   faulty = λ high. absurd (omega (arith, high));
   no_room = λ two. absurd (omega (arith, two));
   too_deep = λ _. (has, deeper);
+  deep = λ _ _ _. refl;
+  long = λ given other low longer.
+      let same = same_form bytes form given has other in
+      absurd (omega (arith, ap (λ (x : JlsrecForm). x.maxval) same, deeper, low));
   memory = λ one. absurd (omega (arith, one));
   statuses = inr (inr (inr (inl refl)));
   kept = λ _ _. refl;
@@ -128,6 +148,10 @@ large most bytes old form used fault has shallow longer says none unused = recor
   faulty = λ high. absurd (omega (arith, high));
   no_room = λ _. (has, shallow, longer);
   too_deep = λ fourteen. absurd (omega (arith, fourteen));
+  deep = λ given other deeper.
+      let same = same_form bytes form given has other in
+      absurd (omega (arith, ap (λ (x : JlsrecForm). x.maxval) same, shallow, deeper));
+  long = λ _ _ _ _. refl;
   memory = λ one. absurd (omega (arith, one));
   statuses = inr (inr (inl refl));
   kept = λ _ _. refl;
@@ -143,6 +167,6 @@ unopened most bytes old form used fault r (too_deep e has deeper says none) unus
     subst (λ (x : Refusal). IsDecoding most bytes old old form used fault (number_of x)) (sym e) (deep most bytes old form used fault has deeper says none unused)
 unopened most bytes old form used fault r (too_large e has shallow longer says none) unused =
     subst (λ (x : Refusal). IsDecoding most bytes old old form used fault (number_of x)) (sym e) (large most bytes old form used fault has shallow longer says none unused)
-unopened most bytes old form used fault r (at_fault first e other is none says formless) unused =
+unopened most bytes old form used fault r (at_fault first e other is closed none says formless) unused =
     subst (λ (x : Refusal). IsDecoding most bytes old old form used fault (number_of x)) (sym e)
-    (stopped most bytes old old form used fault first (λ front rest f same_bytes s. absurd (none front rest f same_bytes s)) (inr is) (λ memory. absurd (other memory)) (λ _. refl) (same refl) says unused formless)
+    (stopped most bytes old old form used fault first (λ front rest f same_bytes s. absurd (none front rest f same_bytes s)) (inr is) (λ given has. absurd (closed given has)) (λ memory. absurd (other memory)) (λ _. refl) (same refl) says unused formless)

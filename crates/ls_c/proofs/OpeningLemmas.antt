@@ -12,7 +12,7 @@ use Rattle.ls_c.specs.declared.form.JlsrecFault.{JlsrecFault}
 use Rattle.ls_c.specs.Forms.{IsOfForm}
 use Rattle.ls_c.specs.Refusals.{no_details}
 use Rattle.ls_c.specs.Calls.{HaveForm, SaysForm, form_by, samples_of, HaveFitting, IsDecoding, laid}
-use Rattle.ls_c.proofs.DecodingLemmas.{decoded}
+use Rattle.ls_c.proofs.DecodingLemmas.{decoded, same_form, AllFit}
 
 -- a frame of the form of an opening has the form that is given for it
 pub told : (opened : Opened) (form : JlsrecForm) (f : Picture) → form ≡ form_by opened → HasForm opened f → IsOfForm f form
@@ -58,6 +58,12 @@ fitting most room bytes form o fits has = (
   subst (λ (x : JlsrecForm). x.maxval ≤ most) (sym has.1) fits.0,
   subst (λ (x : JlsrecForm). samples_of x ≤ room) (sym has.1) fits.1,
 )
+
+pub all_fit : (most room : ℕ) (bytes : List ℕ) (form : JlsrecForm) (o : Opened) → (o.parameters.maxval ≤ most) × (sample_count o.kind o.width o.height ≤ room)
+    → HaveForm bytes form × (form ≡ form_by o) → AllFit most room bytes
+all_fit most room bytes form o fits has given other =
+    let same : given ≡ form_by o = same_form bytes form given has.0 other ∙ has.1 in
+    (subst (λ (x : JlsrecForm). x.maxval ≤ most) (sym same) fits.0, subst (λ (x : JlsrecForm). samples_of x ≤ room) (sym same) fits.1)
 
 -- the number of samples that an opening gives
 pub form_samples : (o : Opened) (form : JlsrecForm) → form ≡ form_by o → samples_of form ≡ sample_count o.kind o.width o.height

@@ -3,7 +3,8 @@ use Rattle.std.specs.Prelude.{◌≡◌, ◌≢◌, ◌⊎◌, ◌↔◌, ℕ, �
 use Rattle.ls_frame.specs.Picture.{Picture, IsFrame, components}
 use Rattle.ls_stream.specs.declared.faults.StreamFault.{StreamFault}
 use Rattle.ls_stream.specs.declared.faults.StreamFault.TheVariants.{NoMemory}
-use Rattle.ls_stream.specs.Grammar.{Spells}
+use Rattle.ls_stream.specs.Grammar.{Spells, most_bytes}
+use Rattle.ls_stream.specs.Faults.{BeginsWithOpening}
 use Rattle.ls_stream.specs.View.Outlines.{IsFirstFault}
 use Rattle.ls_stream.specs.View.Openings.{Opened, SaysSo}
 use Rattle.ls_stream.specs.View.Extents.{IsNext, BeginsEndless}
@@ -82,7 +83,7 @@ pub data IsUnopened (most room : ℕ) (bytes : List ℕ) (form : JlsrecForm) (fa
   too_large : refused ≡ refusal.NoRoom → HaveForm bytes form → form.maxval ≤ most → room < samples_of form → SaysForm bytes form
       → fault ≡ no_details → IsUnopened most room bytes form fault refused
   at_fault : (first : StreamFault) → refused ≡ refusal.Stream first → first ≢ NoMemory → IsFirstFault bytes first
-      → ((front rest : List ℕ) (f : Picture) → bytes ≡ front ++ rest → Spells front f → ⊥) → fault ≡ details_of first → form ≡ no_form
+      → ((given : JlsrecForm) → HaveForm bytes given → ⊥) → ((front rest : List ℕ) (f : Picture) → bytes ≡ front ++ rest → Spells front f → ⊥) → fault ≡ details_of first → form ≡ no_form
       → IsUnopened most room bytes form fault refused
 
 -- Bytes were decoded into a buffer of samples of at most `most`.
@@ -99,6 +100,9 @@ pub record IsDecoding (most : ℕ) (bytes old new : List ℕ) (form : JlsrecForm
   -- no room, or not 8 bits: the form is given, and it is the one that doesn't fit, whatever the data
   pub no_room : status ≡ 2 → HaveForm bytes form × (form.maxval ≤ most) × (length old < samples_of form)
   pub too_deep : status ≡ 14 → HaveForm bytes form × (most < form.maxval)
+  -- a complete legal opening of a picture that doesn't fit is refused so, whatever the data
+  pub deep : (given : JlsrecForm) → HaveForm bytes given → most < given.maxval → status ≡ 14
+  pub long : (given : JlsrecForm) → HaveForm bytes given → given.maxval ≤ most → length old < samples_of given → status ≡ 2
   -- an allocation is tried only after a complete legal opening, of a picture that fits
   pub memory : status ≡ 1 → HaveFitting most (length old) bytes
   -- there is no other status; and what the caller's memory holds after each
@@ -113,6 +117,8 @@ pub record IsDecoding (most : ℕ) (bytes old new : List ℕ) (form : JlsrecForm
 pub record IsReading (bytes : List ℕ) (form : JlsrecForm) (fault : JlsrecFault) (status : ℕ) : Type 0 where
   -- status 0: the bytes begin with a complete legal opening, and the form is the one it gives
   pub done : status ≡ 0 → HaveForm bytes form × (fault ≡ no_details)
+  -- a complete legal opening is read, whatever follows it
+  pub legal : BeginsWithOpening (take most_bytes bytes) → status ≡ 0
   -- if they begin with a codestream of a frame, the form is that frame's
   pub complete : (front rest : List ℕ) (f : Picture) → bytes ≡ front ++ rest → Spells front f → (status ≡ 0) × IsOfForm f form
   -- another status: the first fault of the bytes

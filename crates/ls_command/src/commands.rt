@@ -102,7 +102,7 @@ const COMMANDS: [Entry; 8] = [
     },
     Entry {
         name: "check",
-        about: "Says what is damaged of a recording",
+        about: "Reports what is damaged in a recording",
         help: CHECK_HELP,
         arguments: &[
             REASONS,
@@ -113,7 +113,7 @@ const COMMANDS: [Entry; 8] = [
     },
     Entry {
         name: "verify",
-        about: "Says whether a recording is of a film",
+        about: "Compares a recording with a film",
         help: VERIFY_HELP,
         arguments: &[
             REASONS,

@@ -1,6 +1,7 @@
 //! Reads the frame numbers of `--frames`.
-ghost use Rattle.std.specs.Prelude.{◌<◌, IfSome};
-ghost use Rattle.ls_command.specs.View.Asked.{AreInOrder};
+ghost use Rattle.std.specs.Prelude.{◌<◌};
+ghost use Rattle.ls_command.specs.Values.{ReadsBelow};
+ghost use Rattle.ls_command.specs.View.Asked.{IsBetween, ReadsFrames, ReadsRange};
 
 /// The frames of a film have numbers below this.
 pub const MOST_NUMBERS: u32 = u32::MAX;
@@ -12,12 +13,13 @@ pub struct Frames {
     pub last: Option<u32>,
 }
 
-/// Reads `A`, `A..`, `..B` or `A..B`, where A and B are numbers below 4,294,967,295 and A is no greater than B;
-/// `None` for another text.
+/// Reads `A`, `A..`, `..B` or `A..B`, where A and B are numbers below 4,294,967,295 in decimal digits and A is no
+/// greater than B; `None` for another text.
 pub fn read_frames(text: &str) -> Option<Frames>
-    ensures { IfSome result AreInOrder }
+    ensures { ReadsFrames text.now result }
 {
-    match text.split_once("..") {
+    match text.split_once('.') {
+        Some((first, rest)) => range(first, rest.strip_prefix('.')?),
         None => {
             let first = number(text)?;
             Some(Frames {
@@ -25,20 +27,26 @@ pub fn read_frames(text: &str) -> Option<Frames>
                 last: Some(first),
             })
         }
-        Some(("", last)) => between(0, number(last)?),
-        Some((first, "")) => Some(Frames {
-            first: number(first)?,
-            last: None,
-        }),
-        Some((first, last)) => between(number(first)?, number(last)?),
     }
+}
+
+/// Reads what is before and after `..`.
+fn range(first: &str, last: &str) -> Option<Frames>
+    ensures { ReadsRange first.now last.now result }
+{
+    if last.is_empty() {
+        let first = number(first)?;
+        return Some(Frames { first, last: None });
+    }
+    if first.is_empty() {
+        return between(0, number(last)?);
+    }
+    between(number(first)?, number(last)?)
 }
 
 /// The frames from one number to another, if they are in order.
 fn between(first: u32, last: u32) -> Option<Frames>
-    requires first { first < MOST_NUMBERS }
-    requires last { last < MOST_NUMBERS }
-    ensures { IfSome result AreInOrder }
+    ensures { IsBetween first last result }
 {
     if first > last {
         return None;
@@ -51,13 +59,19 @@ fn between(first: u32, last: u32) -> Option<Frames>
 
 /// Reads a frame's number: digits, at most the greatest number that a frame has.
 fn number(text: &str) -> Option<u32>
-    ensures { IfSome result (λ number. number < MOST_NUMBERS) }
+    ensures { ReadsBelow MOST_NUMBERS text.now result }
 {
     if text.starts_with('+') {
         return None;
     }
     match text.parse::<u32>() {
-        Ok(number) if number < MOST_NUMBERS => Some(number),
-        _ => None,
+        Ok(number) => {
+            if number < MOST_NUMBERS {
+                Some(number)
+            } else {
+                None
+            }
+        }
+        Err(_) => None,
     }
 }

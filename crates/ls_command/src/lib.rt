@@ -15,7 +15,8 @@
 //!
 //! The words are parsed by `clap`, which isn't seen outside: `commands` gives it the commands and options, and
 //! `texts` holds their help. `limits` has the limits on numbers; `frames` and `preset` read the values of `--frames`
-//! and `--preset`. The tests of the whole program show which words are accepted, and how others are answered.
+//! and `--preset` (`specs/Values.antt`). The contracts say which request the matched words make
+//! (`specs/View/Matched.antt`). The tests of the whole program show which words are accepted, and how others are answered.
 #![tactic(auto)]
 
 mod commands;
@@ -23,6 +24,9 @@ pub mod frames;
 mod limits;
 mod preset;
 mod texts;
+
+ghost use Rattle.std.specs.Prelude.{◌≡◌, ◌^◌, true, None, IfOk, IfSome, codes, map, string_bytes};
+ghost use Rattle.ls_command.specs.View.Matched.{Asks, AsksFrames, AsksToRecord, AsksWorkers, AreMatched, MakesRequest, ReadsNumber, WordsMakeRequest, files_in, texts_of};
 
 use clap::error::ErrorKind;
 use clap::{ArgMatches, Command, Error};
@@ -129,7 +133,11 @@ pub enum Answer {
 
 /// Reads the words after the program's name: the request, and whether `--reasons` asks to say why a device failed.
 /// Without words, the answer says what the program is and how to begin.
-pub fn read_words<'a>(alloc: Global, words: &'a [String]) -> Result<(Request<'a>, bool), Answer> {
+///
+/// Which words `clap` matches to which arguments is its contract's. Here it is said which request these make.
+pub fn read_words<'a>(alloc: Global, words: &'a [String]) -> Result<(Request<'a>, bool), Answer>
+    ensures { IfOk result (λ read. WordsMakeRequest (map string_bytes words.now) read.0 read.1) }
+{
     if words.is_empty() {
         return Err(beginning(alloc));
     }
@@ -168,7 +176,9 @@ pub fn misuse(alloc: Global, message: &str) -> Answer {
 }
 
 /// Reads the request, and whether reasons are asked for.
-fn parse<'a>(alloc: Global, words: &'a [String]) -> Result<(Request<'a>, bool), Refusal> {
+fn parse<'a>(alloc: Global, words: &'a [String]) -> Result<(Request<'a>, bool), Refusal>
+    ensures { IfOk result (λ read. WordsMakeRequest (map string_bytes words.now) read.0 read.1) }
+{
     match match_words(alloc, words) {
         Ok(matches) => request_of_matches(alloc, &matches),
         Err(error) => Err(Refusal::Clap(error)),
@@ -176,15 +186,20 @@ fn parse<'a>(alloc: Global, words: &'a [String]) -> Result<(Request<'a>, bool), 
 }
 
 /// Has `clap` match the words to its commands and options.
-fn match_words<'a>(alloc: Global, words: &'a [String]) -> Result<ArgMatches<'a>, Error> {
-    command(alloc)?.try_get_matches_from(words)
+fn match_words<'a>(alloc: Global, words: &'a [String]) -> Result<ArgMatches<'a>, Error>
+    ensures { IfOk result (λ matches. AreMatched (map string_bytes words.now) matches) }
+{
+    let command = command(alloc)?;
+    command.try_get_matches_from(words)
 }
 
 /// Converts matched words to the request, and whether reasons are asked for.
 fn request_of_matches<'a>(
     alloc: Global,
     matches: &ArgMatches<'a>,
-) -> Result<(Request<'a>, bool), Refusal> {
+) -> Result<(Request<'a>, bool), Refusal>
+    ensures { IfOk result (λ read. MakesRequest matches.now read.0 read.1) }
+{
     let Some((name, words)) = matches.subcommand() else {
         return Err(no_command(alloc));
     };
@@ -209,7 +224,9 @@ fn clap_request<'a>(
     alloc: Global,
     name: &str,
     words: &ArgMatches<'a>,
-) -> Result<Option<Request<'a>>, Refusal> {
+) -> Result<Option<Request<'a>>, Refusal>
+    ensures { IfOk result (λ request. IfSome request (Asks words.now name.now)) }
+{
     match request_of(alloc, name, words) {
         Ok(request) => Ok(request),
         Err(error) => Err(Refusal::Clap(error)),
@@ -233,9 +250,11 @@ fn request_of<'a>(
     alloc: Global,
     name: &str,
     words: &ArgMatches<'a>,
-) -> Result<Option<Request<'a>>, Error> {
+) -> Result<Option<Request<'a>>, Error>
+    ensures { IfOk result (λ request. IfSome request (Asks words.now name.now)) }
+{
     match name {
-        "list" => Ok(words.get_str("FILE").map(|file| Request::List { file })),
+        "list" => Ok(list_request(words)),
         "code" => Ok(code_request(words)),
         "play" => play_request(alloc, words),
         "index" => Ok(index_request(words)),
@@ -246,8 +265,19 @@ fn request_of<'a>(
     }
 }
 
+/// The request of `list`, from its matched words.
+fn list_request<'a>(words: &ArgMatches<'a>) -> Option<Request<'a>>
+    ensures { IfSome result (Asks words.now (codes "list")) }
+{
+    Some(Request::List {
+        file: words.get_str("FILE")?,
+    })
+}
+
 /// The request of `code`, from its matched words.
-fn code_request<'a>(words: &ArgMatches<'a>) -> Option<Request<'a>> {
+fn code_request<'a>(words: &ArgMatches<'a>) -> Option<Request<'a>>
+    ensures { IfSome result (Asks words.now (codes "code")) }
+{
     Some(Request::Code {
         file: words.get_str("FILE")?,
         index: words.get_str("index"),
@@ -255,25 +285,28 @@ fn code_request<'a>(words: &ArgMatches<'a>) -> Option<Request<'a>> {
 }
 
 /// The request of `play`, from its matched words.
-fn play_request<'a>(alloc: Global, words: &ArgMatches<'a>) -> Result<Option<Request<'a>>, Error> {
+fn play_request<'a>(alloc: Global, words: &ArgMatches<'a>) -> Result<Option<Request<'a>>, Error>
+    ensures { IfOk result (λ request. IfSome request (Asks words.now (codes "play"))) }
+{
+    match read_play(words) {
+        Ok(request) => Ok(request),
+        Err(message) => Err(usage_fault(command_named(alloc, "play"), message)),
+    }
+}
+
+/// The same, or the message that says what is wrong.
+fn read_play<'a>(words: &ArgMatches<'a>) -> Result<Option<Request<'a>>, &'static str>
+    ensures { IfOk result (λ request. IfSome request (Asks words.now (codes "play"))) }
+{
     let salvage = words.get_flag("salvage");
-    let frames = match words.get_str("frames") {
-        Some(_) if salvage => {
-            return Err(usage_fault(command_named(alloc, "play"), FRAMES_OR_SALVAGE));
-        }
-        Some(text) => match read_frames(text) {
-            Some(frames) => Some(frames),
-            None => return Err(usage_fault(command_named(alloc, "play"), FRAMES_WANTED)),
-        },
-        None => None,
-    };
+    let frames = frames_of(words, salvage)?;
     let index = words.get_str("index");
     if index.is_some() && !salvage {
-        return Err(usage_fault(command_named(alloc, "play"), SALVAGE_WANTED));
+        return Err(SALVAGE_WANTED);
     }
-    let workers = words.get_one("workers").unwrap_or(1);
+    let workers = workers_of(words);
     if workers > 1 && (frames.is_some() || salvage) {
-        return Err(usage_fault(command_named(alloc, "play"), PLAYERS_WANTED));
+        return Err(PLAYERS_WANTED);
     }
     let Some(file) = words.get_str("FILE") else {
         return Ok(None);
@@ -288,8 +321,25 @@ fn play_request<'a>(alloc: Global, words: &ArgMatches<'a>) -> Result<Option<Requ
     }))
 }
 
+/// The frames of `--frames`, if it is given; not beside `--salvage`.
+fn frames_of(words: &ArgMatches<'_>, salvage: bool) -> Result<Option<Frames>, &'static str>
+    ensures frames { IfOk result (AsksFrames words.now) }
+    ensures none { salvage ≡ true → IfOk result (λ frames. frames ≡ None) }
+{
+    match words.get_str("frames") {
+        Some(_) if salvage => Err(FRAMES_OR_SALVAGE),
+        Some(text) => match read_frames(text) {
+            Some(frames) => Ok(Some(frames)),
+            None => Err(FRAMES_WANTED),
+        },
+        None => Ok(None),
+    }
+}
+
 /// The request of `index`, from its matched words.
-fn index_request<'a>(words: &ArgMatches<'a>) -> Option<Request<'a>> {
+fn index_request<'a>(words: &ArgMatches<'a>) -> Option<Request<'a>>
+    ensures { IfSome result (Asks words.now (codes "index")) }
+{
     Some(Request::Index {
         file: words.get_str("FILE")?,
         sums: !words.get_flag("no-sums"),
@@ -297,23 +347,35 @@ fn index_request<'a>(words: &ArgMatches<'a>) -> Option<Request<'a>> {
 }
 
 /// The request of `check`, from its matched words.
-fn check_request<'a>(alloc: Global, words: &ArgMatches<'a>) -> Result<Option<Request<'a>>, Error> {
+fn check_request<'a>(alloc: Global, words: &ArgMatches<'a>) -> Result<Option<Request<'a>>, Error>
+    ensures { IfOk result (λ request. IfSome request (Asks words.now (codes "check"))) }
+{
     let index = words.get_str("index");
-    let workers = words.get_one("workers").unwrap_or(1);
+    let workers = workers_of(words);
     if workers > 1 && index.is_none() {
         return Err(usage_fault(command_named(alloc, "check"), CHECKERS_WANTED));
     }
-    Ok(
-        words.get_str("FILE").map(|file| Request::Check {
-            file,
-            index,
-            workers,
-        }),
-    )
+    let Some(file) = words.get_str("FILE") else {
+        return Ok(None);
+    };
+    Ok(Some(Request::Check {
+        file,
+        index,
+        workers,
+    }))
+}
+
+/// The number of workers, from the matched words.
+fn workers_of(words: &ArgMatches<'_>) -> u8
+    ensures { AsksWorkers words.now result }
+{
+    words.get_one("workers").unwrap_or(1)
 }
 
 /// The request of `verify`, from its matched words.
-fn verify_request<'a>(words: &ArgMatches<'a>) -> Option<Request<'a>> {
+fn verify_request<'a>(words: &ArgMatches<'a>) -> Option<Request<'a>>
+    ensures { IfSome result (Asks words.now (codes "verify")) }
+{
     Some(Request::Verify {
         film: words.get_str("FILM")?,
         recording: words.get_str("FILE")?,
@@ -322,17 +384,29 @@ fn verify_request<'a>(words: &ArgMatches<'a>) -> Option<Request<'a>> {
 }
 
 /// The request of `record`, from its matched words.
-fn record_request<'a>(
-    alloc: Global,
-    words: &ArgMatches<'a>,
-) -> Result<Option<Request<'a>>, Refusal> {
+fn record_request<'a>(alloc: Global, words: &ArgMatches<'a>) -> Result<Option<Request<'a>>, Refusal>
+    ensures { IfOk result (λ request. IfSome request (Asks words.now (codes "record"))) }
+{
     let Some(tuning) = tuning_of(words.get_str("preset")) else {
         return Err(Refusal::Limit(BAD_PRESET));
     };
-    match words.get_strs("FILE").unwrap_or(&[]).to_vec(alloc) {
-        Ok(files) if files.len() > MOST_FILMS => Err(Refusal::Limit(TOO_MANY_FILMS)),
-        Ok(files) => Ok(recording_of(words, tuning, files)),
-        Err(refused) => Err(Refusal::Clap(Error::from(refused))),
+    let files = match films_of(alloc, words) {
+        Ok(files) => files,
+        Err(refused) => return Err(Refusal::Clap(Error::from(refused))),
+    };
+    if files.len() > MOST_FILMS {
+        return Err(Refusal::Limit(TOO_MANY_FILMS));
+    }
+    Ok(recording_of(words, tuning, files))
+}
+
+/// The films that are named.
+fn films_of<'a>(alloc: Global, words: &ArgMatches<'a>) -> Result<Vec<&'a str>, AllocError>
+    ensures { IfOk result (λ files. texts_of files.items ≡ files_in words.now) }
+{
+    match words.get_strs("FILE") {
+        Some(files) => files.to_vec(alloc),
+        None => Ok(Vec::new(alloc)),
     }
 }
 
@@ -341,11 +415,13 @@ fn recording_of<'a>(
     words: &ArgMatches<'a>,
     tuning: Tuning,
     files: Vec<&'a str>,
-) -> Option<Request<'a>> {
+) -> Option<Request<'a>>
+    ensures { IfSome result (AsksToRecord words.now tuning files.entry.items) }
+{
     Some(Request::Record(RecordRequest {
-        workers: words.get_one("workers")?,
-        capacity: words.get_one("queue")?,
-        window: words.get_one("window")?,
+        workers: size_of(words, "workers")?,
+        capacity: size_of(words, "queue")?,
+        window: size_of(words, "window")?,
         tuning,
         into: words.get_str("into"),
         replace: words.get_flag("replace"),
@@ -356,8 +432,17 @@ fn recording_of<'a>(
     }))
 }
 
+/// The number of an option, from the matched words.
+fn size_of(words: &ArgMatches<'_>, name: &str) -> Option<usize>
+    ensures { ReadsNumber words.now (2 ^ 64) name.now result }
+{
+    words.get_one(name)
+}
+
 /// The request of `replay`, from its matched words.
-fn replay_request<'a>(words: &ArgMatches<'a>) -> Option<Request<'a>> {
+fn replay_request<'a>(words: &ArgMatches<'a>) -> Option<Request<'a>>
+    ensures { IfSome result (Asks words.now (codes "replay")) }
+{
     Some(Request::Replay {
         sources: words.get_one("sources")?,
         capacity: words.get_one("capacity")?,

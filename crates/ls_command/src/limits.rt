@@ -10,7 +10,7 @@ pub const WORKERS: (i64, i64) = (1, 16);
 /// The least and the most frames that may wait for a worker.
 pub const QUEUE: (i64, i64) = (1, 256);
 
-/// The least and the most frames of a film that may be read and not written.
+/// The least and the most frames of a film that may be in progress.
 pub const WINDOW: (i64, i64) = (1, 64);
 
 /// The numbers that `replay` is given: more than a queue accepts, which is said once the steps are read.

@@ -35,21 +35,20 @@ pub const CODE_HELP: &str = "\
 Writes a codestream of JPEG-LS (ITU-T T.87) for each frame of FILE to standard output.
 
 The codestreams are lossless and have the default parameters of the frame's maxval.
-They are joined with nothing between, and each is written as soon as it is done. If a frame is at
-fault, the codestreams of exactly the good frames before it are written.
+They are joined with nothing between, and each is written before the next frame is read. If a frame can't
+be read, the codestreams of exactly the frames before it are written.
 
 CharLS and the tools on it read a codestream only if the maxval of its frame is 2^P - 1 with P bits a
 sample: 3, 7, 15, .., 255, 1023, 4095, .., 65535; ffmpeg reads few others. Codestreams of other
-maxvals are right by T.87 all the same. If one of these tools is to read them, first scale the film
+maxvals conform to T.87 nevertheless. If one of these tools is to read them, first scale the film
 to such a maxval, as with Netpbm's pamdepth.";
 
 pub const PLAY_HELP: &str = "\
-Writes the frames of FILE to standard output: of each codestream of JPEG-LS (ITU-T T.87) its frame as a
-binary Netpbm image, PGM or PPM.
+Writes the frames of the recording FILE to standard output, each as a binary Netpbm image, PGM or PPM.
 
-FILE is codestreams that follow one another with nothing between, as `code` writes them. The images
-follow one another likewise, and each is written before the next codestream is read. If a codestream
-is at fault, the images of exactly the frames before it are written.
+FILE is codestreams of JPEG-LS (ITU-T T.87) joined with nothing between, as `code` writes them. So are the
+images, and each is written before the next codestream is read. If a codestream can't be decoded, the images
+of exactly the frames before it are written.
 
   jlsrec code film.pgm > film.jls
   jlsrec play film.jls | cmp - film.pgm
@@ -60,34 +59,34 @@ in `jlsrec play film.jls | ffmpeg -f image2pipe -i - film.mkv`.
 
 A codestream of another program is read if it is lossless and has one component or three, each in a scan
 of its own, without subsampling, restart intervals or mapping tables, and with its height and all
-parameters before the first scan. Of any other it says what isn't supported.";
+parameters before the first scan. For any other a message names what isn't supported.";
 
 pub const FRAMES_HELP: &str = "\
-The frames to play, from number A to number B, both of them too, counted from 0: A..B; or A, A.. to the end, ..B.
-The codestreams before A are stepped over by their markers, and none after B is read";
+The frames to play, from number A up to and including number B, counted from 0: A..B; or A alone, A.. to the end, ..B
+from the first. The codestreams before A are passed over by their markers, and none after B is read";
 
 pub const FRAMES_WANTED: &str =
     "--frames takes A, A.., ..B or A..B, of frame numbers from 0, A no greater than B";
 
 pub const SALVAGE_HELP: &str = "\
-Go on after a codestream at fault, at the next place after its first byte where one may begin, and say of each gap on
-standard error
+Continue after a damaged codestream, at the next place after its first byte where one may begin, and report each gap
+on standard error
   frame N: FAULT: B bytes at O passed over
 where N counts the frames and the gaps before it. The status is 1 if there was a gap";
 
 pub const INDEX_OF_SALVAGE_HELP: &str = "\
-The recording's index, with sums, as `index` wrote it: gaps are told by the recorded numbers then, and at the end the
-recorded frames that weren't played, each run of them by a line on standard error
+The recording's index, with sums, as `index` wrote it: gaps are then reported by the recorded numbers, and at the end a
+line on standard error reports each range of recorded frames that weren't played
   FILE: frame N is lost
-or `frames N to M are lost`. FILE is read twice then, so a pipe can't be played so";
+or `frames N to M are lost`. FILE is read twice, so it can't be a pipe";
 
 pub const FRAMES_OR_SALVAGE: &str = "--frames and --salvage don't go together";
 
 pub const SALVAGE_WANTED: &str = "--index goes only with --salvage";
 
 pub const PLAYERS_HELP: &str = "\
-How many workers decode, 1 to 16. From 2 on twice as many codestreams are read at once, and their images written in
-order when all of them are made";
+The number of workers that decode, 1 to 16. With 2 or more, twice as many codestreams are read at once, and their
+images are written in order once all of them are decoded";
 
 pub const PLAYERS_WANTED: &str = "--workers goes with neither --frames nor --salvage";
 
@@ -115,17 +114,17 @@ The columns of a line, one blank between:
 Frame 137 alone, by its line: tail -c +$((OFFSET + 1)) FILE | head -c BYTES; or `jlsrec play --frames 137 FILE`.";
 
 pub const INDEX_OF_CODE_HELP: &str = "\
-The file for an index, as `index` writes it: the line of each codestream, as soon as the codestream is out";
+The file for an index, as `index` writes it: the line of each codestream, once the codestream is written";
 
 pub const INDEX_OF_RECORDING_HELP: &str = "\
-Write an index of each FILE.jls too, FILE.jls.index, as `index` writes it: the line of each codestream, as soon as that
-was written. One that can't be made keeps all from being recorded; one that breaks off leaves the recording as it is";
+Also write an index of each FILE.jls, FILE.jls.index, as `index` writes it: the line of each codestream, once the
+codestream is written. If an index can't be created, nothing is recorded; if one fails later, its recording goes on";
 
 pub const NO_SUMS_HELP: &str = "\
-Leave the sum out, which is quicker; by such an index `check` doesn't see a bit that decodes as another sample";
+Omit the sum, which is faster; by such an index `check` doesn't find a changed bit that decodes as another sample";
 
 pub const CHECK_HELP: &str = "\
-Decodes each codestream of FILE, a recording, and says of each that is damaged a line on standard output:
+Decodes each codestream of FILE, a recording, and writes a line for each damaged one to standard output:
   frame N: FAULT: B bytes at O passed over
 or, by an index, where FAULT is also `truncated` or `changed`,
   frame N: FAULT: B bytes at O
@@ -133,45 +132,45 @@ or, by an index, where FAULT is also `truncated` or `changed`,
   FILE: more bytes than the index has
 and at the end
   FILE: N frames, M damaged
-A codestream that stands elsewhere in FILE, as its sum in the index shows, is told so by the second of these lines, and
-counted apart: `, K moved`. In a pipe, which is read once, none is looked for. The status is 0 if nothing else was written, else 1. JPEG-LS has no checksums, so a bit that has changed may decode as
-other samples: that only an index with sums shows, or `verify` with the film.";
+By its sum in the index a codestream is also found elsewhere in FILE, unless that is a pipe: `at P, not O` reports it,
+and such codestreams are counted separately, `, K moved`. The status is 0 if nothing but the last line was written, else
+1. JPEG-LS has no checksums, so a bit that has changed may decode as other samples: only an index with sums shows that,
+or `verify` with the film.";
 
 pub const INDEX_FILE_HELP: &str = "\
-The recording's index, as `index` wrote it: each codestream has to be where it stood, and to have its sum if the index
-has one";
+The recording's index, as `index` wrote it: each codestream must be at its recorded place and, if the index has sums,
+unchanged";
 
 pub const CHECKERS_HELP: &str = "\
-How many workers decode by an index, 1 to 16. From 2 on twice as many codestreams are read at once, and their lines
-written in order when all of them were looked at";
+The number of workers that decode by an index, 1 to 16. With 2 or more, twice as many codestreams are read at once, and
+their lines are written in order once all of them are checked";
 
 pub const CHECKERS_WANTED: &str = "--workers goes only with --index";
 
 pub const VERIFY_HELP: &str = "\
 Compares the frames of FILE, a recording, with those of FILM, frame by frame. The status is 0 exactly if they are the
-same, each with its size, its maxval and all its samples; whatever form the headers of either file have. Else it is 1,
-and the first frame that differs, is missing or is too many is said on standard error.
+same, each with its size, its maxval and all its samples, whatever the form of the headers on either side. Else it is 1,
+and a line on standard error reports the first frame that differs, is missing or is too many.
 
   $ jlsrec verify film.pgm film.pgm.jls && echo the same";
 
 pub const VERIFIERS_HELP: &str = "\
-How many workers decode FILE, 1 to 16. From 2 on twice as many codestreams are read at once";
+The number of workers that decode FILE, 1 to 16. With 2 or more, twice as many codestreams are read at once";
 
 pub const RECORD_HELP: &str = "\
-Records the films FILE.. side by side: writes beside each FILE a file FILE.jls, of a codestream of JPEG-LS
-(ITU-T T.87) for each of its frames. A FILE may be a named pipe that a camera writes to.
+Records each film FILE into a file FILE.jls beside it, with a codestream of JPEG-LS (ITU-T T.87) for each of
+its frames. A FILE may be a named pipe that a camera writes to.
 
-Each film has a lane of its own, which reads its frames and writes their codestreams in order, each
-as soon as it is coded and its turn has come; the workers code the frames of all films. A film that ends
-early or breaks ends its own lane, and no other. Once all have ended, a line tells of each FILE that was
-recorded whole, in their order:
+Each film has a lane of its own, which reads its frames and writes their codestreams in frame order once
+they are coded; the workers code the frames of all films. A film that ends early or is malformed ends its
+own recording, and no other. Once all have ended, a line reports each FILE that was recorded completely and
+is on the disk, in the order of the films:
   FILE: N frames
 
-All FILEs are opened first, and only then each FILE.jls is made. Nothing that was recorded before is
-lost: a FILE.jls that is there is first renamed to FILE.jls.1, or to the next number that is free, and
-its index with it. Where another program is recording it, nothing is changed. A named pipe is opened by
-its own lane, so a camera that hasn't started keeps none of the others waiting. A line is written only
-once its recording is on the disk.
+All FILEs are opened before any FILE.jls is created. No earlier recording is lost: an existing FILE.jls is
+first renamed to FILE.jls.1, or to the next free number, together with its index. If another program is
+recording it, nothing is changed. A named pipe is opened by its own lane, so a camera that hasn't started
+doesn't delay the others.
 
   $ jlsrec record left.pgm right.pgm
   left.pgm: 250 frames
@@ -182,33 +181,33 @@ pub const TOO_MANY_FILMS: &str = "jlsrec: at most 16 files\n";
 
 pub const BAD_PRESET: &str = "jlsrec: bad preset\n";
 
-pub const WORKERS_HELP: &str = "How many workers code frames, 1 to 16";
+pub const WORKERS_HELP: &str = "The number of workers that code frames, 1 to 16";
 
-pub const QUEUE_HELP: &str = "How many frames may wait for a worker, 1 to 256";
+pub const QUEUE_HELP: &str = "The number of frames that may wait for a worker, 1 to 256";
 
-pub const WINDOW_HELP: &str = "How many frames of a film may be read and not written, 1 to 64";
+pub const WINDOW_HELP: &str = "The number of frames of a film that may be in progress, 1 to 64";
 
 pub const PRESET_HELP: &str = "\
-The coding parameters of all films, each 0 for the default of a frame's maxval";
+The coding parameters for all films; each 0 stands for the default for a frame's maxval";
 
 pub const INTO_HELP: &str = "\
-The folder for the recordings, which are called as the last parts of their FILEs, with .jls added
+The folder for the recordings, which are named after the last parts of their FILEs, with .jls added
 [default: beside each FILE]";
 
 pub const REPLACE_HELP: &str = "\
 Remove the FILE.jls that was renamed, and its index, once the new recording has its first frame on the disk";
 
 pub const PROGRESS_HELP: &str = "\
-Say on standard error how far each film is, twice a second, and at once if one stops;
-on a terminal that is always said, in one line";
+Report on standard error how far each film is, twice a second, and immediately when one stops;
+on a terminal this is always reported, in one line";
 
 pub const REPORT_HELP: &str = "\
-The file for a report, made before anything is recorded and written at the end: of each film its frames, bytes,
+The file for a report, created before anything is recorded and written at the end: for each film its frames, bytes,
 speed and longest delay, and how busy the workers were";
 
 pub const REASONS_HELP: &str = "\
-Say on standard error also what the system says of a fault, and what a file of another kind seems to be;
-on a terminal that is always said";
+Also report on standard error the system's reason for a fault, and what a file of another kind seems to be;
+on a terminal this is always reported";
 
 pub const FILMS_HELP: &str =
     "The films to read, 1 to 16: binary Netpbm images (PGM, PPM) one after the other";

@@ -3,7 +3,7 @@
 //! What it hands on: a `Console` writes messages on standard error, and a progress line on a terminal. A `Program` is
 //! what each command works with: its runtime, which is a `Host`, the opener of its files, standard output and the
 //! console. A `Reader` reads a film or a recording, and the `Cause` of a fault decides what more is said of it. `DONE`,
-//! `FAILED` and `USAGE` are the statuses; `Shown` makes a file name printable.
+//! `FAILED` and `USAGE` are the statuses; `Shown` makes a file name printable; `Lines` is a writer with a buffer.
 //!
 //! ```
 //! use ls_console::{Console, DONE, Host, open_film};
@@ -27,6 +27,7 @@
 #![tactic(auto)]
 
 mod console;
+mod lines;
 mod output;
 mod program;
 mod reader;
@@ -34,6 +35,7 @@ mod shown;
 mod written;
 
 pub use console::{COLUMNS, Console, cleared};
+pub use lines::{Lines, line_buffer};
 pub use output::{
     DONE, FAILED, USAGE, finish, finish_lines, misused, no_memory, say_unwritten, write_text,
 };

@@ -1,11 +1,13 @@
 //! Standard output, and the statuses that the program exits with.
-ghost use Rattle.std.specs.Prelude.{◌≡◌, ◌≢◌, ◌⊎◌, ◌==◌};
+ghost use Rattle.std.specs.Prelude.{◌≡◌, ◌≢◌, ◌⊎◌, ◌==◌, []};
 ghost use Rattle.std.specs.Io.KnownBytes.{Appends, Keeps};
 ghost use Rattle.ls_frame.specs.View.Devices.{wrapped, failed_calls, count_after};
+ghost use Rattle.ls_console.specs.View.Lines.{held, lines_bytes};
 
 use crate::console::Console;
+use crate::lines::Lines;
 use ls_frame::{Counted, Failed, Outlet, write_bytes};
-use std::io::{BufWriter, Write};
+use std::io::Write;
 
 /// The statuses that the program exits with.
 pub const DONE: u8 = 0;
@@ -50,18 +52,42 @@ pub fn finish<W: Write, E: Outlet>(
     }
 }
 
-/// Flushes lines that were written through a buffer, as [`finish`] does, and drops what couldn't be written.
+/// Flushes lines, as [`finish`] does, and drops what couldn't be written. Returns the writer below them, and the status.
 pub fn finish_lines<W: Write, E: Outlet>(
     status: u8,
-    mut lines: Counted<BufWriter<&mut Counted<W>>>,
+    lines: Counted<Lines<W>>,
+    console: &mut Console<E>,
+) -> (W, u8)
+    ensures status { (result.1 ≡ status) ⊎ (result.1 ≡ FAILED) }
+    ensures written { result.1 ≡ DONE → Keeps (lines_bytes W.contents (wrapped lines)) (W.contents result.0) }
+    ensures failures { result.1 ≡ DONE → failed_calls lines ≡ 0 }
+{
+    let (failures, failure) = (Outlet::failures(&lines), lines.last_failure());
+    let mut lines = lines.into_inner();
+    let status = flush_lines(status, failures, failure, &mut lines, console);
+    (lines.into_writer(), status)
+}
+
+/// Flushes lines, unless writes to them have failed, and returns the status. `failure` is the last failure.
+fn flush_lines<W: Write, E: Outlet>(
+    status: u8,
+    failures: u64,
+    failure: Option<Failed>,
+    lines: &mut Lines<W>,
     console: &mut Console<E>,
 ) -> u8
-    ensures { (result ≡ status) ⊎ (result ≡ FAILED) }
+    ensures status { (result ≡ status) ⊎ (result ≡ FAILED) }
+    ensures empty { result ≡ DONE → held lines.new ≡ [] }
+    ensures bytes { Keeps (lines_bytes W.contents lines.old) (lines_bytes W.contents lines.new) }
+    ensures failures { result ≡ DONE → failures ≡ 0 }
 {
-    let status = finish(status, &mut lines, console);
-    // A buffer that is dropped would write again what couldn't be written.
-    let (_output, _unwritten) = lines.into_inner().into_parts();
-    status
+    if failures > 0 {
+        return after_failure(status, failure, console);
+    }
+    match lines.flush() {
+        Ok(()) => status,
+        Err(fault) => say_unwritten(Some(Failed::from(fault)), console),
+    }
 }
 
 /// The status after a write has failed, which was said unless the status is `DONE`.

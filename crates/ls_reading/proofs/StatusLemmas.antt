@@ -1,14 +1,17 @@
 -- What the results of engines say of a command.
-use Rattle.std.proofs.Common.{◌≡◌, ℕ, List, Option, Result, Ok, Err, IfOk, IfErr, MatchResult, refl, arith}
+use Rattle.std.proofs.Common.{◌≡◌, ◌⊎◌, ℕ, List, Option, Result, Ok, Err, IfOk, IfErr, MatchResult, refl, sym, ◌∙◌, inl, inr, arith}
 use Rattle.ls_archive.specs.declared.verifying.Verdict.{Verdict}
 use Rattle.ls_archive.specs.declared.verifying.Verdict.TheVariants.{Same, Differs, Missing, Extra}
 use Rattle.ls_archive.specs.View.Comparing.{FindsAhead}
 use Rattle.ls_console.specs.declared.output.TheConstants.{DONE, FAILED}
+use Rattle.ls_film.specs.declared.faults.FilmFault.{FilmFault}
 use Rattle.ls_film.specs.declared.part.Part.{Part}
 use Rattle.ls_film.specs.declared.part.PartFault.{PartFault}
 use Rattle.ls_film.specs.declared.playing.PlayFault.{PlayFault}
+use Rattle.ls_film.specs.View.Engine.{Completes}
 use Rattle.ls_film.specs.View.Playing.{Stops, StopsAhead}
-use Rattle.ls_reading.specs.View.Commands.{IsPart, PlaysPart, ShowsPartOf, HaveSameFrames}
+use Rattle.ls_frame.specs.Picture.{Picture}
+use Rattle.ls_reading.specs.View.Commands.{IsPart, PlaysPart, ShowsPartOf, WritesTextOf, HaveSameFrames}
 use Rattle.ls_reading.specs.View.Statuses.{verdict_status}
 
 -- playing one by one stops as playing ahead does
@@ -20,6 +23,11 @@ stops_ahead read read' written written' (Err fault) stops = (read', (λ device. 
 -- the two statuses differ
 not-both : (status : ℕ) → status ≡ FAILED → status ≡ DONE → ⊥
 not-both status failed done = let one : status ≡ 1 = failed in let zero : status ≡ 0 = done in omega (arith, one, zero)
+
+-- the status before the last flush was 0 if that after it is
+pub done_before : (status after : ℕ) → (after ≡ status) ⊎ (after ≡ FAILED) → after ≡ DONE → status ≡ DONE
+done_before status after (inl same) done = sym same ∙ done
+done_before status after (inr failed) done = absurd (not-both after failed done)
 
 -- a part was shown if the status is 0
 module _ {O : Type 0} (holds : O → List ℕ → Option (List ℕ) → Type 0) (opener : O) (path : List ℕ) (written written' : Option (List ℕ)) where
@@ -49,3 +57,12 @@ module _ {O : Type 0} (holds : O → List ℕ → Option (List ℕ) → Type 0) 
   same-frames film recording images left codestreams (Differs number what) status one other finds is done = absurd (not-both status is done)
   same-frames film recording images left codestreams (Missing number) status one other finds is done = absurd (not-both status is done)
   same-frames film recording images left codestreams (Extra number) status one other finds is done = absurd (not-both status is done)
+
+-- a text was written if the status is 0
+module _ {O : Type 0} (holds : O → List ℕ → Option (List ℕ) → Type 0) (opener : O) (path : List ℕ) (written written' : Option (List ℕ)) where
+  pub text-written : (IsImage : List ℕ → Picture → Type 0) (text : List Picture → List ℕ) (read left : Option (List ℕ)) (outcome : Result ℕ FilmFault) (status : ℕ)
+      → holds opener path read → MatchResult outcome (λ _. status ≡ DONE) (λ _. status ≡ FAILED)
+      → IfOk outcome (Completes IsImage text read left written written') → status ≡ DONE → WritesTextOf holds opener path written written' IsImage text
+  text-written IsImage text read left (Ok count) status file is completes done =
+      record { read = read; left = left; count = count; file = file; run = completes }
+  text-written IsImage text read left (Err fault) status file is completes done = absurd (not-both status is done)

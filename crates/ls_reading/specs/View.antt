@@ -1,2 +1,4 @@
 pub mod Commands
+pub mod Indexes
+pub mod Replays
 pub mod Statuses

@@ -1,23 +1,25 @@
 //! The commands `index`, `check` and `verify`: a recording is listed, checked for damage, and compared with its film.
-ghost use Rattle.std.specs.Prelude.{◌≡◌, ◌⊎◌, false, IfOk, IfErr, IfSome, length};
+ghost use Rattle.std.specs.Prelude.{◌≡◌, ◌⊎◌, false, IfOk, IfErr, IfSome, IfNone, length};
 ghost use Rattle.ls_frame.specs.View.Chunks.{left_in, inner_reader};
-ghost use Rattle.ls_frame.specs.View.Devices.{count_after};
+ghost use Rattle.ls_frame.specs.View.Devices.{count_after, wrapped};
 ghost use Rattle.ls_film.specs.View.Steps.{failed_by};
 ghost use Rattle.ls_archive.specs.View.Checks.{IsChecked, Stops as StopsCheck, blames_recording};
 ghost use Rattle.ls_archive.specs.View.Comparing.{FindsAhead};
 ghost use Rattle.ls_archive.specs.View.Indexing.{Completes as Indexes, Stops as StopsIndex};
 ghost use Rattle.ls_archive.specs.View.Verifying.{Stops as StopsComparison};
-ghost use Rattle.ls_reading.specs.View.Commands.{HaveSameFrames, PassesCheck};
+ghost use Rattle.ls_reading.specs.View.Commands.{HasNoGaps, HaveSameFrames, IsSearched, PassesCheck, WritesIndexOf};
 ghost use Rattle.ls_reading.specs.View.Statuses.{verdict_status};
 
+use crate::asked::Asked;
 use crate::cause::conclude;
+use core::mem::replace_with;
 use ls_archive::{
     CheckFault, Checked, Difference, Finding, Findings, IndexFault, Verdict, VerifyFault, Wanted,
     check, check_by, find_places, verify, verify_by, write_index,
 };
 use ls_console::{
-    Cause, Console, DONE, FAILED, Program, Reader, Shown, explain, finish_lines, no_memory,
-    open_film, say_unwritten,
+    Cause, Console, DONE, FAILED, Lines, Program, Reader, Shown, explain, finish_lines,
+    line_buffer, no_memory, open_film, say_unwritten,
 };
 use ls_files::Opens;
 use ls_frame::{Buffered, Counted, Feed, Kind, Outlet, write_bytes};
@@ -25,18 +27,20 @@ use ls_salvage::{Gap, Gaps, NoText, SalvageFault, Salvaged, salvage};
 use std::alloc::{AllocError, Global};
 use std::fmt::Display;
 use std::fs;
-use std::io::{BufWriter, Write};
+use std::io::Write;
 use std::rt::Files;
 use std::thread::Threads;
 
-/// Writes the index of a recording.
+/// Writes the index of a recording, through a buffer.
 pub fn index<R, O, W, E>(program: Program<'_, R, O, W, E>, file: &str, sums: bool) -> u8
 where
     R: AllocGlobal,
     O: Opens + Copy + Drop,
     W: Write,
     E: Outlet,
-    ensures { (result ≡ DONE) ⊎ (result ≡ FAILED) }
+    ensures status { (result ≡ DONE) ⊎ (result ≡ FAILED) }
+    ensures lists { result ≡ DONE → WritesIndexOf O.holds program.entry.opener file.now
+        (W.contents (wrapped program.entry.output.now)) (W.contents (wrapped program.exit.1.1.0.now)) sums }
 {
     let Program {
         rt,
@@ -44,18 +48,75 @@ where
         output,
         console,
     } = program;
-    let Ok(buffered) = BufWriter::new(rt.alloc(), &mut *output) else {
+    let Ok(buffer) = line_buffer(rt.alloc()) else {
         return no_memory(console);
     };
-    let mut lines = Counted::new(buffered);
-    let status = match open_film(rt.alloc(), opener, file, console) {
-        Ok(mut recording) => {
-            let result = index_to(rt.alloc(), &mut recording, &mut lines, sums);
-            conclude(file, result, &recording, lines.last_failure(), console)
-        }
-        Err(status) => status,
+    let asked = Asked {
+        rt,
+        opener,
+        file,
+        buffer,
+        console,
     };
+    replace_with(output, (asked, sums), index_lines)
+}
+
+/// Writes the index of a recording through a buffer, with sums or without, and returns the output with the status.
+fn index_lines<R, O, W, E>(
+    output: Counted<W>,
+    asked: (Asked<'_, R, O, E>, bool),
+) -> (Counted<W>, u8)
+where
+    R: AllocGlobal,
+    O: Opens + Copy + Drop,
+    W: Write,
+    E: Outlet,
+    ensures status { (result.1 ≡ DONE) ⊎ (result.1 ≡ FAILED) }
+    ensures lists { result.1 ≡ DONE → WritesIndexOf O.holds asked.entry.0.opener asked.entry.0.file.now
+        (W.contents (wrapped output)) (W.contents (wrapped result.0)) asked.entry.1 }
+{
+    let (asked, sums) = asked;
+    let Asked {
+        rt,
+        opener,
+        file,
+        buffer,
+        console,
+    } = asked;
+    let mut lines = Counted::new(Lines::new(output, buffer));
+    let lined = Program {
+        rt,
+        opener,
+        output: &mut lines,
+        console: &mut *console,
+    };
+    let status = index_through(lined, file, sums);
     finish_lines(status, lines, console)
+}
+
+/// Writes the index of a recording to any output, which isn't flushed.
+fn index_through<R, O, L, E>(program: Program<'_, R, O, L, E>, file: &str, sums: bool) -> u8
+where
+    R: AllocGlobal,
+    O: Opens + Copy + Drop,
+    L: Write,
+    E: Outlet,
+    ensures status { (result ≡ DONE) ⊎ (result ≡ FAILED) }
+    ensures lists { result ≡ DONE → WritesIndexOf O.holds program.entry.opener file.now
+        (L.contents (wrapped program.entry.output.now)) (L.contents (wrapped program.exit.1.1.0.now)) sums }
+{
+    let Program {
+        rt,
+        opener,
+        output,
+        console,
+    } = program;
+    let mut recording = match open_film(rt.alloc(), opener, file, console) {
+        Ok(recording) => recording,
+        Err(status) => return status,
+    };
+    let result = index_to(rt.alloc(), &mut recording, output, sums);
+    conclude(file, result, &recording, output.last_failure(), console)
 }
 
 /// Writes the index of a recording, over any reader and writer.
@@ -88,6 +149,7 @@ where
     E: Outlet,
     ensures status { (result ≡ DONE) ⊎ (result ≡ FAILED) }
     ensures good { result ≡ DONE → IfSome index.entry (λ index. PassesCheck O.holds program.entry.opener file.now index.now) }
+    ensures alone { result ≡ DONE → IfNone index.entry (HasNoGaps O.holds program.entry.opener file.now) }
 {
     let Program {
         rt,
@@ -95,10 +157,10 @@ where
         output,
         console,
     } = program;
-    let Ok(buffered) = BufWriter::new(rt.alloc(), &mut *output) else {
+    let Ok(buffer) = line_buffer(rt.alloc()) else {
         return no_memory(console);
     };
-    let mut lines = Counted::new(buffered);
+    let mut lines = Counted::new(Lines::new(&mut *output, buffer));
     let lined = Program {
         rt,
         opener,
@@ -114,7 +176,8 @@ where
     } else {
         status
     };
-    finish_lines(status, lines, console)
+    let (_output, status) = finish_lines(status, lines, console);
+    status
 }
 
 /// Looks for damage in a recording by its index, with this number of workers that decode.
@@ -293,7 +356,8 @@ where
     O: Opens + Copy + Drop,
     W: Write,
     E: Outlet,
-    ensures { (result ≡ DONE) ⊎ (result ≡ FAILED) }
+    ensures status { (result ≡ DONE) ⊎ (result ≡ FAILED) }
+    ensures good { result ≡ DONE → HasNoGaps O.holds program.entry.opener file.now }
 {
     let Program {
         rt,
@@ -330,7 +394,9 @@ fn decode_only<R: Feed, G: Gaps>(
     alloc: Global,
     recording: &mut Buffered<R>,
     gaps: &mut G,
-) -> Result<Salvaged, SalvageFault> {
+) -> Result<Salvaged, SalvageFault>
+    ensures { IfOk result (IsSearched (left_in R.remaining recording.old) (left_in R.remaining recording.new)) }
+{
     let mut nothing = Counted::new(Vec::new(alloc));
     salvage::<NoText, _, _, _>(alloc, recording, &mut nothing, gaps)
 }

@@ -1,5 +1,5 @@
 //! The commands `list` and `code`, the latter with an index of its codestreams or without.
-ghost use Rattle.std.specs.Prelude.{◌≡◌, ◌⊎◌, IfOk, IfErr};
+ghost use Rattle.std.specs.Prelude.{◌≡◌, ◌⊎◌, ℕ, List, true, None, IfOk, IfErr};
 ghost use Rattle.ls_frame.specs.Netpbm.{IsImageOf};
 ghost use Rattle.ls_frame.specs.View.Devices.{count_after, wrapped};
 ghost use Rattle.ls_film.specs.Coding.{default_file};
@@ -7,19 +7,25 @@ ghost use Rattle.ls_film.specs.Listing.{lines as film_lines};
 ghost use Rattle.ls_film.specs.View.Engine.{Completes};
 ghost use Rattle.ls_film.specs.View.Steps.{failed_by};
 ghost use Rattle.ls_film.specs.View.Stopping.{Stops, blames_reader, blames_writer};
+ghost use Rattle.ls_archive.specs.View.Following.{index_of};
+ghost use Rattle.ls_console.specs.View.Readers.{unread};
 ghost use Rattle.ls_reading.specs.View.Commands.{WritesTextOf};
+ghost use Rattle.ls_reading.specs.View.Indexes.{IsWholeIndex};
 
+use crate::asked::Asked;
 use crate::cause::{Caused, conclude};
 use crate::indexing::make_index;
+use core::mem::replace_with;
 use ls_archive::{Follower, IndexFault, Indexing};
 use ls_console::{
-    DONE, FAILED, Host, MadeFile, Program, finish_lines, no_memory, open_film, say_index_end,
+    Console, DONE, EndedIndex, FAILED, Host, Lines, MadeFile, Program, Reader, USAGE, finish_lines,
+    line_buffer, no_memory, open_film, say_index_end,
 };
-use ls_files::{Makes, Opens};
+use ls_files::{Keeper, Makes, Opens, Target};
 use ls_film::{FilmFault, code_film, list_film};
 use ls_frame::{Counted, Failed, Feed, Outlet};
 use std::alloc::Global;
-use std::io::{BufWriter, Write};
+use std::io::Write;
 
 /// Lists a film, through a buffer.
 pub fn list<R, O, W, E>(program: Program<'_, R, O, W, E>, file: &str) -> u8
@@ -28,7 +34,9 @@ where
     O: Opens + Copy + Drop,
     W: Write,
     E: Outlet,
-    ensures { (result ≡ DONE) ⊎ (result ≡ FAILED) }
+    ensures status { (result ≡ DONE) ⊎ (result ≡ FAILED) }
+    ensures lists { result ≡ DONE → WritesTextOf O.holds program.entry.opener file.now
+        (W.contents (wrapped program.entry.output.now)) (W.contents (wrapped program.exit.1.1.0.now)) IsImageOf film_lines }
 {
     let Program {
         rt,
@@ -36,18 +44,71 @@ where
         output,
         console,
     } = program;
-    let Ok(buffered) = BufWriter::new(rt.alloc(), &mut *output) else {
+    let Ok(buffer) = line_buffer(rt.alloc()) else {
         return no_memory(console);
     };
-    let mut lines = Counted::new(buffered);
-    let status = match open_film(rt.alloc(), opener, file, console) {
-        Ok(mut film) => {
-            let result = list_to(rt.alloc(), &mut film, &mut lines);
-            conclude(file, result, &film, lines.last_failure(), console)
-        }
-        Err(status) => status,
+    let asked = Asked {
+        rt,
+        opener,
+        file,
+        buffer,
+        console,
     };
+    replace_with(output, asked, list_lines)
+}
+
+/// Lists a film through a buffer, and returns the output with the status.
+fn list_lines<R, O, W, E>(output: Counted<W>, asked: Asked<'_, R, O, E>) -> (Counted<W>, u8)
+where
+    R: AllocGlobal,
+    O: Opens + Copy + Drop,
+    W: Write,
+    E: Outlet,
+    ensures status { (result.1 ≡ DONE) ⊎ (result.1 ≡ FAILED) }
+    ensures lists { result.1 ≡ DONE → WritesTextOf O.holds asked.entry.opener asked.entry.file.now
+        (W.contents (wrapped output)) (W.contents (wrapped result.0)) IsImageOf film_lines }
+{
+    let Asked {
+        rt,
+        opener,
+        file,
+        buffer,
+        console,
+    } = asked;
+    let mut lines = Counted::new(Lines::new(output, buffer));
+    let lined = Program {
+        rt,
+        opener,
+        output: &mut lines,
+        console: &mut *console,
+    };
+    let status = list_through(lined, file);
     finish_lines(status, lines, console)
+}
+
+/// Lists a film, over any output, which isn't flushed.
+fn list_through<R, O, L, E>(program: Program<'_, R, O, L, E>, file: &str) -> u8
+where
+    R: AllocGlobal,
+    O: Opens + Copy + Drop,
+    L: Write,
+    E: Outlet,
+    ensures status { (result ≡ DONE) ⊎ (result ≡ FAILED) }
+    ensures lists { result ≡ DONE → WritesTextOf O.holds program.entry.opener file.now
+        (L.contents (wrapped program.entry.output.now)) (L.contents (wrapped program.exit.1.1.0.now)) IsImageOf film_lines }
+{
+    let Program {
+        rt,
+        opener,
+        output,
+        console,
+    } = program;
+    let mut film = match open_film(rt.alloc(), opener, file, console) {
+        Ok(film) => film,
+        Err(status) => return status,
+    };
+    let result = list_to(rt.alloc(), &mut film, output);
+    conclude(file, result, &film, output.last_failure(), console)
 }
 
 /// Lists a film, over any reader and writer. (Each engine is called by such a function: if reader and writer are
@@ -111,6 +172,39 @@ where
     O: Makes + Copy + Drop,
     W: Write,
     E: Outlet,
+    ensures status { (result ≡ DONE) ⊎ ((result ≡ FAILED) ⊎ (result ≡ USAGE)) }
+    ensures codes { result ≡ DONE → WritesTextOf O.holds program.entry.opener file.now
+        (W.contents (wrapped program.entry.output.now)) (W.contents (wrapped program.exit.1.1.0.now)) IsImageOf default_file }
+{
+    let Coded { status, index } = code_indexed(program, file, index);
+    if let Some(ended) = index {
+        ended.target.release();
+    }
+    status
+}
+
+/// A film that was coded while its index was written: the status, and the index, if it was begun.
+#[derive(Drop)]
+struct Coded<'a, O: Opens> {
+    status: u8,
+    index: Option<EndedIndex<'a, O>>,
+}
+
+/// Codes a film, and writes the index of its codestreams to a file, which isn't released yet.
+fn code_indexed<'a, R, O, W, E>(
+    program: Program<'_, R, O, W, E>,
+    file: &str,
+    index: &'a str,
+) -> Coded<'a, O>
+where
+    R: Host,
+    O: Makes + Copy + Drop,
+    W: Write,
+    E: Outlet,
+    ensures status { (result.status ≡ DONE) ⊎ ((result.status ≡ FAILED) ⊎ (result.status ≡ USAGE)) }
+    ensures codes { result.status ≡ DONE → WritesTextOf O.holds program.entry.opener file.now
+        (W.contents (wrapped program.entry.output.now)) (W.contents (wrapped program.exit.1.1.0.now)) IsImageOf default_file }
+    ensures whole { result.status ≡ DONE → IsWholeIndex result.index }
 {
     let Program {
         rt,
@@ -118,52 +212,177 @@ where
         output,
         console,
     } = program;
-    let mut film = match open_film(rt.alloc(), opener, file, console) {
+    let film = match open_film(rt.alloc(), opener, file, console) {
         Ok(film) => film,
-        Err(status) => return status,
+        Err(status) => return Coded::without_index(status),
     };
     let made = match make_index(rt, opener, index, &film, console) {
         Ok(made) => made,
-        Err(status) => return status,
+        Err(status) => return Coded::without_index(status),
     };
+    code_made(rt.alloc(), file, film, made, output, console)
+}
+
+/// Codes a film while its index is written to a file that was made.
+fn code_made<'a, O, W, E>(
+    alloc: Global,
+    file: &str,
+    film: Reader<'_, O>,
+    made: MadeFile<'a, O>,
+    output: &mut Counted<W>,
+    console: &mut Console<E>,
+) -> Coded<'a, O>
+where
+    O: Makes + Copy + Drop,
+    W: Write,
+    E: Outlet,
+    ensures status { (result.status ≡ DONE) ⊎ (result.status ≡ FAILED) }
+    ensures codes { result.status ≡ DONE → (opener : O) (path : List ℕ) → O.holds opener path (unread O.File.remaining film.entry)
+        → WritesTextOf O.holds opener path (W.contents (wrapped output.old)) (W.contents (wrapped output.new)) IsImageOf default_file }
+    ensures whole { result.status ≡ DONE → IsWholeIndex result.index }
+{
     let MadeFile {
+        path,
         target,
         mut keeper,
-        ..
     } = made;
-    let follower = Follower::new(rt.alloc(), Counted::new(target));
-    let (result, follower, broken) = code_followed(rt.alloc(), &mut film, &mut *output, follower);
-    let status = conclude(file, result, &film, output.last_failure(), console);
-    let Some(follower) = follower else {
-        return status;
+    let coding = Coding {
+        alloc,
+        film,
+        follower: Follower::new(alloc, Counted::new(target)),
     };
-    if result.is_err() {
+    let Followed {
+        result,
+        film,
+        follower,
+        broken,
+    } = replace_with(output, coding, code_followed);
+    let status = conclude(file, result, &film, output.last_failure(), console);
+    give_back_unless(result.is_ok(), &mut keeper);
+    end_coded(status, path, follower, broken, &keeper, console)
+}
+
+/// Gives back the place of an index, unless its film was coded.
+fn give_back_unless<O: Makes + Copy + Drop>(is_coded: bool, keeper: &mut Keeper<O>) {
+    if !is_coded {
         keeper.give_back();
     }
+}
+
+/// Ends the index of a film that was coded with this status.
+fn end_coded<'a, O, E>(
+    status: u8,
+    path: &str,
+    follower: Option<Follower<Counted<Target<'a, O>>>>,
+    broken: Option<IndexFault>,
+    keeper: &Keeper<O>,
+    console: &mut Console<E>,
+) -> Coded<'a, O>
+where
+    O: Makes + Copy + Drop,
+    E: Outlet,
+    ensures status { (result.status ≡ status) ⊎ (result.status ≡ FAILED) }
+    ensures whole { result.status ≡ DONE → IsWholeIndex result.index }
+    ensures unbroken { result.status ≡ DONE → broken ≡ None }
+{
+    match follower {
+        Some(follower) => {
+            let ended = end_index(path, follower, broken, keeper, console);
+            Coded::with_index(status, ended)
+        }
+        None => Coded::without_index(FAILED),
+    }
+}
+
+impl<'a, O: Opens> Coded<'a, O> {
+    /// A film that wasn't coded with an index.
+    fn without_index(status: u8) -> Coded<'a, O>
+        ensures status { result.status ≡ status }
+    {
+        Coded {
+            status,
+            index: None,
+        }
+    }
+
+    /// A film that was coded with this status. If its index isn't whole, the status is `FAILED`.
+    fn with_index(status: u8, ended: EndedIndex<'a, O>) -> Coded<'a, O>
+        ensures status { (result.status ≡ status) ⊎ (result.status ≡ FAILED) }
+        ensures whole { result.status ≡ DONE → IsWholeIndex result.index }
+        ensures index { result.status ≡ DONE → ended.entry.is_whole ≡ true }
+    {
+        let status = if ended.is_whole { status } else { FAILED };
+        Coded {
+            status,
+            index: Some(ended),
+        }
+    }
+}
+
+/// A film to be coded, and the follower that writes its index.
+#[derive(Drop)]
+struct Coding<R, I> {
+    alloc: Global,
+    film: R,
+    follower: Follower<I>,
+}
+
+/// A film that was coded: the result, what is left of it, and the follower, with the fault that broke the index off, if
+/// there was one.
+#[derive(Drop)]
+struct Followed<R, I> {
+    result: Result<u64, FilmFault>,
+    film: R,
+    follower: Option<Follower<I>>,
+    broken: Option<IndexFault>,
+}
+
+/// Codes a film, over any reader and writer, while a follower writes the index. Returns the writer with what was done.
+fn code_followed<R: Feed, W: Outlet, I: Outlet + Drop>(
+    output: W,
+    coding: Coding<R, I>,
+) -> (W, Followed<R, I>)
+    ensures completes { IfOk result.1.result (Completes IsImageOf default_file
+        (R.remaining coding.film) (R.remaining result.1.film) (W.contents output) (W.contents result.0)) }
+    ensures stops { IfErr result.1.result (Stops default_file
+        (R.remaining coding.film) (R.remaining result.1.film) (W.contents output) (W.contents result.0)) }
+    ensures reads { R.failed_reads result.1.film ≡ count_after (failed_by blames_reader result.1.result) (R.failed_reads coding.film) }
+{
+    let Coding {
+        alloc,
+        mut film,
+        follower,
+    } = coding;
+    let mut indexing = Indexing::new(output, Some(follower));
+    let result = code_film(alloc, &mut film, &mut indexing);
+    let (output, follower, broken) = indexing.into_parts();
+    let followed = Followed {
+        result,
+        film,
+        follower,
+        broken,
+    };
+    (output, followed)
+}
+
+/// Syncs the index of a film that was coded, and says why it isn't whole, if it isn't.
+fn end_index<'a, O, E>(
+    path: &str,
+    follower: Follower<Counted<Target<'a, O>>>,
+    broken: Option<IndexFault>,
+    keeper: &Keeper<O>,
+    console: &mut Console<E>,
+) -> EndedIndex<'a, O>
+where
+    O: Makes + Copy + Drop,
+    E: Outlet,
+    ensures whole { result.is_whole ≡ true → broken ≡ None }
+    ensures target { result.target ≡ wrapped (index_of follower.entry) }
+{
     let synced = match keeper.sync() {
         Ok(()) => Ok(()),
         Err(fault) => Err(Failed::from(fault)),
     };
     let broken = broken.map(|fault| (fault, fault.cause()));
-    let ended = say_index_end(index, follower.into_inner(), synced, broken, console);
-    ended.target.release();
-    if ended.is_whole { status } else { FAILED }
-}
-
-/// Codes a film, over any reader and writer, while a follower writes the index. The follower comes back, with the
-/// fault that broke the index off, if there was one.
-fn code_followed<R: Feed, W: Outlet, I: Outlet + Drop>(
-    alloc: Global,
-    film: &mut R,
-    output: &mut W,
-    follower: Follower<I>,
-) -> (
-    Result<u64, FilmFault>,
-    Option<Follower<I>>,
-    Option<IndexFault>,
-) {
-    let mut indexing = Indexing::new(output, Some(follower));
-    let result = code_film(alloc, film, &mut indexing);
-    let (_output, follower, broken) = indexing.into_parts();
-    (result, follower, broken)
+    say_index_end(path, follower.into_inner(), synced, broken, console)
 }

@@ -1,5 +1,7 @@
 //! The file of an index that is written together with its recording.
-use ls_console::{Console, MadeFile, Reader, Shown, USAGE, make_file, say_unmade};
+ghost use Rattle.std.specs.Prelude.{◌≡◌, ◌⊎◌, IfErr};
+
+use ls_console::{Console, FAILED, MadeFile, Reader, Shown, USAGE, make_file, say_unmade};
 use ls_files::{Keeper, Makes, Opens, Place};
 use ls_frame::Outlet;
 use std::rt::Files;
@@ -16,6 +18,7 @@ where
     R: AllocGlobal + Files,
     O: Makes + Copy + Drop,
     E: Outlet,
+    ensures { IfErr result (λ status. (status ≡ FAILED) ⊎ (status ≡ USAGE)) }
 {
     let place = Place::of(rt, path);
     let film = film.get_ref().get_ref();

@@ -24,15 +24,16 @@
 //! }
 //! ```
 //!
-//! In reading order: `cause` (the causes of faults), `films` (`list` and `code`), `indexing` (the file of an index
-//! that is written together with its recording), `playing` (`play`), `recorded` (the recorded numbers of gaps, and
-//! lost frames), `archive` (`index`, `check` and `verify`), `replaying` (`replay`). The contracts say which status each
-//! returns, and what `code`, `play`, `check` and `verify` have read and written if it is 0 (`specs/View/Commands.antt`);
-//! what each engine does over any reader and writer is said at the function that calls it. What is said on standard
-//! error, the tests of the whole program show.
+//! In reading order: `cause` (the causes of faults), `asked` (what a command that writes lines is asked for), `films`
+//! (`list` and `code`), `indexing` (the file of an index that is written together with its recording), `playing`
+//! (`play`), `recorded` (the recorded numbers of gaps, and lost frames), `archive` (`index`, `check` and `verify`),
+//! `replaying` (`replay`). The contracts say which status each returns, and what each has read and written if it is 0
+//! (`specs/View/Commands.antt`, `specs/View/Replays.antt`); what each engine does over any reader and writer is said at
+//! the function that calls it. What is said on standard error, the tests of the whole program show.
 #![tactic(auto)]
 
 mod archive;
+mod asked;
 mod cause;
 mod films;
 mod indexing;

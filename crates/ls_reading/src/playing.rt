@@ -8,7 +8,7 @@ ghost use Rattle.ls_film.specs.View.Engine.{Completes};
 ghost use Rattle.ls_film.specs.View.Parts.{StopsPart};
 ghost use Rattle.ls_film.specs.View.Playing.{StopsAhead};
 ghost use Rattle.ls_salvage.specs.View.Runs.{Completes as Salvages, Stops as StopsSalvage};
-ghost use Rattle.ls_reading.specs.View.Commands.{WritesTextOf, ShowsPartOf, PlaysPart, IsPart};
+ghost use Rattle.ls_reading.specs.View.Commands.{WritesTextOf, ShowsPartOf, SalvagesAllOf, PlaysPart, IsPart};
 
 use crate::cause::conclude;
 use crate::recorded::Recorded;
@@ -117,7 +117,9 @@ where
     O: Opens + Copy + Drop,
     W: Write,
     E: Outlet,
-    ensures { (result ≡ DONE) ⊎ (result ≡ FAILED) }
+    ensures status { (result ≡ DONE) ⊎ (result ≡ FAILED) }
+    ensures salvages { result ≡ DONE → SalvagesAllOf O.holds program.entry.opener file.now
+        (W.contents (wrapped program.entry.output.now)) (W.contents (wrapped program.exit.1.1.0.now)) }
 {
     let Program {
         rt,

@@ -32,9 +32,9 @@
 //! ```
 //!
 //! In reading order: `recording` (the command), `watching` (counts and times of films while they are recorded, their
-//! files settled as each ends, and progress), `ending` (says how each film ended, and writes the report). The contract
-//! of `ending::say_end` says which film counts as recorded (`specs/View/Films.antt`). What is said, and that the status is
-//! 0 only if all films count so, the tests of the whole program show.
+//! files settled as each ends, and progress), `ending` (says how each film ended, and writes the report). What holds of
+//! the films and their files if the status is 0, `specs/View/Films.antt` says; the texts, the tests of the whole program
+//! show.
 #![tactic(auto)]
 
 mod ending;

@@ -2,7 +2,7 @@
 ghost use Rattle.std.specs.Prelude.{◌≡◌, true, List, IfOk, MatchResult};
 ghost use Rattle.std.specs.List.{AllZip};
 ghost use Rattle.ls_console.specs.View.Readers.{unread};
-ghost use Rattle.ls_recording.specs.View.Films.{HasTrack, IsWhole, IsRecorded, held};
+ghost use Rattle.ls_recording.specs.View.Films.{HasTrack, IsWhole, IsRecorded, HasRecorded, held};
 ghost use Rattle.ls_files.specs.declared.keeper.Targets.{Targets};
 
 use crate::ending::report::{table_of, write_report};
@@ -38,10 +38,8 @@ struct Finished<'a, O: Opens> {
 }
 
 /// Records the films that are asked for, says how each ended, and returns the status. On a terminal progress is always
-/// shown.
-///
-/// Which files the films are read from and recorded to, `open_films` says; that with `DONE` each was recorded,
-/// `record_opened` does.
+/// shown. With `DONE` each film was recorded from its own file to its own recording, with the tuning asked for: to its
+/// end, or as far as it was read when the program was asked to stop.
 pub fn record_films<R, O, W, E>(program: Program<'_, R, O, W, E>, asked: RecordRequest<'_>) -> u8
 where
     R: Host + Clock + Threads + Wait + Sync,
@@ -49,6 +47,7 @@ where
     R::File: Send,
     W: Write + Send,
     E: Outlet + Send,
+    ensures { result ≡ DONE → HasRecorded O.holds R.File.remaining R.File.contents program.entry.opener asked.entry.tuning asked.entry.files.items }
 {
     let columns = program.console.columns();
     let names = match names_once(program.rt.alloc(), &asked, columns) {

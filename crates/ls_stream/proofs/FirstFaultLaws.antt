@@ -16,9 +16,9 @@ use Rattle.ls_stream.specs.declared.segments.read.FrameHeader.{FrameHeader}
 use Rattle.ls_stream.specs.Markers.{code_of, marker_of, IsMarker, marker}
 use Rattle.ls_stream.specs.Segments.{segment, field_of, scan_contents}
 use Rattle.ls_stream.specs.Grammar.{filled, Miscellaneous, one_miscellaneous_bytes, miscellaneous_bytes, MayPrecedeScans, last_presets, no_presets, parameters_of}
-use Rattle.ls_stream.specs.Faults.{Due, frame_header, first_scan, next_scan, end_marker, is_late, MayStand, marker_fault, Check, first_unmet, contents_checks, frame_checks, presets_checks, scan_checks, has_segment, BreaksSegment, no_length, bad_length, cut_off, fails, BreaksMarker, ends, no_marker, zero_code, misplaced, malformed, BreaksAfter, BreaksStart, no_byte, one_byte, another_first, another_second, HasFrame, HasScan, HasNextScan, BreaksOpening, at_start, before_frame, before_scan, bad_presets}
+use Rattle.ls_stream.specs.Faults.{Due, frame_header, first_scan, next_scan, end_marker, is_late, MayStand, marker_fault, Check, first_unmet, contents_checks, frame_checks, presets_checks, scan_checks, has_segment, BreaksSegment, no_length, bad_length, cut_off, fails, BreaksMarker, ends, no_marker, zero_code, misplaced, malformed, BreaksAfter, BreaksStart, no_byte, one_byte, another_first, another_second, HasFrame, HasScan, BeginsWithOpening, HasNextScan, BreaksOpening, at_start, before_frame, before_scan, bad_presets}
 use Rattle.ls_stream.specs.View.FirstFaults.{BreaksData, IsPlaneData, BreaksPlanes, before_data, from_data}
-use Rattle.ls_stream.specs.View.Reading.{◌>>=◌, wanted, Take, Ahead, byte_at, code_at, marker_at, contents_at, preset_fields_of, skipped_at, presets_at, after_marker, part_at, ahead_at, frame_header_of, scan_header_of, is_start_of_frame, is_start_of_scan, is_end_of_image, start_at, frame_header_at, scan_header_at, next_scan_at, end_at, or_bad_presets, opening_at}
+use Rattle.ls_stream.specs.View.Reading.{◌>>=◌, wanted, Take, Ahead, byte_at, code_at, marker_at, contents_at, preset_fields_of, skipped_at, presets_at, after_marker, part_at, ahead_at, frame_header_of, scan_header_of, is_start_of_frame, is_start_of_scan, is_end_of_image, start_at, frame_header_at, scan_header_at, next_scan_at, end_at, or_bad_presets, opening_at, HasOpening}
 use Rattle.ls_stream.specs.View.Outlines.{data_length, data_at, after_data, ids_in, ScansStop, at_opening, at_scans, FirstFaultsAreStops}
 use Rattle.ls_stream.proofs.StepLemmas.{test_met, step_is}
 use Rattle.ls_stream.proofs.SegmentLemmas.{two_again, bytes_of_front, bytes_of_rest, bytes_along, contents_again}
@@ -383,6 +383,15 @@ scan_opened bytes contents before between rest are has =
           ∙ ap (λ q. after_scan h (parameters_of h.precision q) rest) (presets_append no_presets before between)
           ∙ ap (λ n. after_scan h (parameters_of n (last_presets no_presets (before ++ between))) rest) (precision_at contents h frame.header);
     }
+
+-- an opening at the front is read
+pub opening_again : (bytes : List ℕ) → AreBytes bytes → BeginsWithOpening bytes → HasOpening bytes
+opening_again bytes are begins =
+    let scan = scan_opened bytes begins.contents begins.before begins.between begins.rest are begins.scan in
+    ((scan.h, begins.parameters, begins.rest), scan.opening ∙ ap (λ r. after_scan scan.h r begins.rest) begins.parameters_are)
+
+pub not_both : (bytes : List ℕ) (fault : StreamFault) → HasOpening bytes → opening_at bytes ≡ Err fault → ⊥
+not_both bytes fault found bad = let same : ◌≡◌ {A = Result Frame StreamFault} (Ok found.0) (Err fault) = sym found.1 ∙ bad in cc
 
 start_again : (rest : List ℕ) → start_at (marker StartOfImage ++ rest) ≡ Ok rest
 unfolding start_at

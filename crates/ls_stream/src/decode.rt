@@ -130,8 +130,9 @@ impl<'a> Opening<'a> {
 
     /// Reads the opening at the front of bytes. It decodes no sample, and allocates nothing.
     ///
-    /// If any front of the bytes is a codestream of a frame, the opening has the form of that frame. If this fails, no
-    /// front is one, and the fault is the first from the left, as for `decode_frame`, and never NoMemory.
+    /// A complete legal opening is read, whatever follows it. If any front of the bytes is a codestream of a frame, the
+    /// opening has the form of that frame. If this fails, the bytes begin with no complete legal opening, no front is a
+    /// codestream, and the fault is the first from the left, as for `decode_frame`, and never NoMemory.
     pub fn read(bytes: &'a [u8]) -> Result<Opening<'a>, StreamFault>
         ensures bytes { IfOk result (λ opening. opening.bytes ≡ bytes.now) }
         ensures begins { IfOk result (λ opening. BeginsWithOpening (take most_bytes bytes.now)) }
@@ -140,6 +141,7 @@ impl<'a> Opening<'a> {
             → IsOfForm opening f) }
         ensures none { IfErr result (λ fault. (front rest : List ℕ) (f : Picture) → bytes.now ≡ front ++ rest → Spells front f → ⊥) }
         ensures first { IfErr result (λ fault. IsFirstFault bytes.now fault) }
+        ensures unopened { IfErr result (λ fault. BeginsWithOpening (take most_bytes bytes.now) → ⊥) }
         ensures outline { IfErr result (λ fault. outline_of bytes.now ≡ Err fault) }
         ensures memory { IfErr result (λ fault. fault ≢ StreamFault.NoMemory) }
     {

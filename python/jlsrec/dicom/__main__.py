@@ -3,15 +3,21 @@
 from __future__ import annotations
 
 import argparse
+import contextlib
 import errno
 import importlib.util
+import io
 import os
 import sys
+from typing import Union
 
+from .._files import write_all
 from . import Refused
 
 
 INTERRUPTED = 130
+# The commands over whole trees.
+TREES = ("compress", "restore", "verify")
 
 
 def main(program: str = "jlsrec-dicom") -> int:
@@ -32,7 +38,12 @@ def main(program: str = "jlsrec-dicom") -> int:
         name = f"{os.fsdecode(error.filename)}: " if error.filename else ""
         print(f"{words.command}: {name}{error.strerror or error}", file=sys.stderr)
         return 1
+    except MemoryError:
+        print(f"{words.command}: there isn't memory enough", file=sys.stderr)
+        return 1
     except KeyboardInterrupt:
+        if words.command in TREES:
+            print(f"{words.command}: interrupted; the same command goes on from here", file=sys.stderr)
         return INTERRUPTED
 
 
@@ -137,8 +148,8 @@ def _count(word: str) -> int:
 def hold_standard_streams() -> None:
     """Has no file that is opened later take the place of a standard stream that is closed.
 
-    A read or a write there fails as it would have. If standard error is closed, messages are dropped: print would write
-    them to standard output.
+    A read or a write there fails as it would have. What can't be written to standard error is dropped, as where it is
+    closed, nobody reads it any more, or its disk is full: work goes on without messages.
     """
     for number, mode in ((0, os.O_WRONLY), (1, os.O_RDONLY), (2, os.O_RDONLY)):
         try:
@@ -146,8 +157,27 @@ def hold_standard_streams() -> None:
         except OSError as error:
             if error.errno == errno.EBADF:
                 os.open(os.devnull, mode)
-    if sys.stderr is None:
-        sys.stderr = open(os.devnull, "w")
+    encoding = "utf-8" if sys.stderr is None else sys.stderr.encoding
+    raw = io.BufferedWriter(_StandardError())
+    sys.stderr = io.TextIOWrapper(raw, encoding, "backslashreplace", line_buffering=True)
+
+
+class _StandardError(io.RawIOBase):
+    """Standard error, to which no write fails."""
+
+    def writable(self) -> bool:
+        return True
+
+    def fileno(self) -> int:
+        return 2
+
+    def isatty(self) -> bool:
+        return os.isatty(2)
+
+    def write(self, data: Union[bytes, memoryview]) -> int:
+        with contextlib.suppress(OSError):
+            write_all(2, data)
+        return len(data)
 
 
 if __name__ == "__main__":

@@ -1,11 +1,12 @@
 """What is done with one file of a tree: it is compressed, restored or verified.
 
 Each answers a line, a dictionary: of compress what the manifest says of the file; else its state alone, and why it
-failed. A worker calls `do_batch`; nothing that happens to a file keeps the next from being done.
+failed. A worker calls `do_batch` or `do_each`; nothing that happens to a file keeps the next from being done.
 """
 
 from __future__ import annotations
 
+import contextlib
 import errno
 import hashlib
 import os
@@ -21,6 +22,7 @@ from . import manifest, second
 from .coded import Damaged, Origin, Plan, raw_chunks, sum_of
 from .elements import Left
 from .places import Changed, Part, Source, Taken, make_folders, standing
+from .verified import is_settled, stamp
 
 Line = dict[str, Any]
 # Errors by which no other file can be written either.
@@ -40,9 +42,14 @@ class Job:
 
 def do_batch(job: Job, items: Sequence[Union[bytes, Line]]) -> list[Line]:
     """The lines of files: of their names, or of what the manifest says of them."""
-    if manifest.token_in(job.out) != job.token:
-        return [failed(item, "this worker doesn't see OUT and its manifest") for item in items]
-    return [_do(job, item) for item in items]
+    return list(do_each(job, items))
+
+
+def do_each(job: Job, items: Sequence[Union[bytes, Line]]) -> Iterator[Line]:
+    """The same lines, each once its file is done."""
+    sees_out = manifest.token_in(job.out) == job.token
+    for item in items:
+        yield _do(job, item) if sees_out else failed(item, "this worker doesn't see OUT and its manifest")
 
 
 def _do(job: Job, item: Union[bytes, Line]) -> Line:
@@ -78,20 +85,43 @@ def compress(job: Job, path: bytes) -> Line:
     with Source(os.path.join(job.tree, path)) as source:
         _clear(place, source)
         try:
-            plan = Plan(source)
-            if standing(place) is not None:
-                plan.check()
-            return _put(
-                source,
-                place,
-                lambda part: plan.write(part.write, part.write_at),
-                lambda path, written: coded_line(path, plan, job.second, written),
-            )
+            return _coded(source, place, job.second)
         except Left as why:
             text = str(why)
-            return _put(
-                source, place, lambda part: _copy(source, part), lambda path, written: copied_line(path, source, text)
-            )
+            try:
+                return _put(
+                    source,
+                    place,
+                    lambda part: _copy(source, part),
+                    lambda path, written: copied_line(path, source, text),
+                )
+            except Taken:
+                raise Damaged(f"{text}; there is another file of its name, which was left as it is") from None
+
+
+def _coded(source: Source, place: bytes, other: Optional[str]) -> Line:
+    """Puts the coded file in its place. Raises Left if the source is to be copied.
+
+    A copy that stands there is as good: a run that was interrupted made it, of what its second decoder couldn't read.
+    """
+    plan = Plan(source)
+    if standing(place) is not None:
+        plan.check()
+    try:
+        return _put(
+            source,
+            place,
+            lambda part: plan.write(part.write, part.write_at),
+            lambda path, written: coded_line(path, plan, other, written),
+        )
+    except Taken:
+        try:
+            line = copied_line(place, source, "an earlier run copied it")
+        except (Damaged, OSError):
+            raise Taken from None
+        source.check()
+        sync_folder(os.path.dirname(place))
+        return line
 
 
 def _clear(place: bytes, source: Source) -> None:
@@ -238,23 +268,37 @@ def _source_chunks(made: Source, line: Line, see=None) -> Iterator[bytes]:
 
 
 def verify(job: Job, line: Line) -> Line:
-    """Looks at a file of OUT: its sum, its values' and its source's, and its bytes if there is the tree."""
+    """Looks at a file of OUT: its sum, its values' and its source's, and its bytes if there is the tree.
+
+    The answer has a stamp of the files, if none has changed meanwhile or a moment ago.
+    """
     path = manifest.path_in(line)
+    with contextlib.ExitStack() as opened:
+        made = opened.enter_context(Source(os.path.join(job.out, path)))
+        source = None if job.tree is None else opened.enter_context(Source(os.path.join(job.tree, path)))
+        files = [file for file in (made, source) if file is not None]
+        are_settled = all(is_settled(file.stat) for file in files)
+        _compare_sums(made, source, line)
+        found = {"state": "verified", "bytes_before": line["bytes_before"], "bytes_after": made.size}
+        if are_settled and not any(file.has_changed() for file in files):
+            found["stamp"] = stamp(line, [file.stat for file in files])
+        return found
+
+
+def _compare_sums(made: Source, source: Optional[Source], line: Line) -> None:
+    """Raises Damaged if a file of OUT, its values or its source aren't what the manifest or the tree's file says."""
     values = hashlib.sha256()
-    with Source(os.path.join(job.out, path)) as made:
-        if made.size != line["bytes_after"] or sum_of(made) != line["sha256"]:
-            raise Damaged("its sum isn't that of the manifest")
-        chunks = _source_chunks(made, line, lambda array: values.update(array))
-        if job.tree is None:
-            sum = hashlib.sha256()
-            for chunk in chunks:
-                sum.update(chunk)
-            before = sum.hexdigest()
-        else:
-            with Source(os.path.join(job.tree, path)) as source:
-                before = compared(chunks, source)
-        if before != line["sha256_before"]:
-            raise Damaged("its source's sum isn't that of the manifest")
-        if line["state"] == "compressed" and values.hexdigest() != line["sha256_values"]:
-            raise Damaged("its values' sum isn't that of the manifest")
-        return {"state": "verified", "bytes_before": line["bytes_before"], "bytes_after": made.size}
+    if made.size != line["bytes_after"] or sum_of(made) != line["sha256"]:
+        raise Damaged("its sum isn't that of the manifest")
+    chunks = _source_chunks(made, line, lambda array: values.update(array))
+    if source is None:
+        sum = hashlib.sha256()
+        for chunk in chunks:
+            sum.update(chunk)
+        before = sum.hexdigest()
+    else:
+        before = compared(chunks, source)
+    if before != line["sha256_before"]:
+        raise Damaged("its source's sum isn't that of the manifest")
+    if line["state"] == "compressed" and values.hexdigest() != line["sha256_values"]:
+        raise Damaged("its values' sum isn't that of the manifest")

@@ -6,6 +6,7 @@ its last line holds. A last line that has no end was torn, and is cut off by the
 
 from __future__ import annotations
 
+import errno
 import fcntl
 import json
 import os
@@ -22,6 +23,8 @@ NAME = b"manifest.jsonl"
 FORMAT = "jlsrec-dicom 1"
 # What has a file in OUT.
 KEPT = ("compressed", "copied")
+# What failed once and isn't in the tree any more: as if it had no line.
+GONE = "gone"
 
 
 def named(path: bytes) -> dict[str, str]:
@@ -41,6 +44,22 @@ def path_in(line: dict[str, Any]) -> bytes:
     return path
 
 
+def _check(line: dict[str, Any]) -> None:
+    """Raises KeyError or TypeError if a line lacks what it is to have."""
+    words, numbers = ["state"], []
+    if line["state"] in KEPT:
+        words += ["sha256", "sha256_before"]
+        numbers = ["bytes_before", "bytes_after", "mtime_ns"]
+    if line["state"] == "compressed":
+        words += ["sha256_values", "syntax", "pixel_vr"]
+    if line["state"] in ("copied", "failed", "left"):
+        words.append("why")
+    if not all([isinstance(line[word], str) for word in words]) or not all([type(line[n]) is int for n in numbers]):
+        raise TypeError
+    if line["state"] == "link":
+        bytes.fromhex(line["to_hex"])
+
+
 def token_in(out: bytes) -> Optional[str]:
     """What the manifest of a folder is known by, if there is one."""
     try:
@@ -53,7 +72,7 @@ def token_in(out: bytes) -> Optional[str]:
 def _token(line: bytes) -> Optional[str]:
     try:
         heading = json.loads(line)
-    except ValueError:
+    except (ValueError, RecursionError):
         return None
     is_ours = isinstance(heading, dict) and heading.get("format") == FORMAT
     return heading.get("token") if is_ours else None
@@ -72,6 +91,8 @@ class Manifest:
         """Opens the manifest. One that writes makes it in an empty folder, and cuts a torn line off."""
         self.path = os.path.join(out, NAME)
         self.is_new = False
+        # Whether the last line may be torn, so that none may follow it.
+        self._is_torn = False
         flags = os.O_RDWR | os.O_APPEND if writes else os.O_RDONLY
         try:
             self.number = os.open(self.path, flags | os.O_CLOEXEC | os.O_NOFOLLOW)
@@ -142,8 +163,8 @@ class Manifest:
                 try:
                     found = json.loads(line)
                     path_in(found)
-                    found["state"]
-                except (ValueError, KeyError, TypeError, AttributeError):
+                    _check(found)
+                except (ValueError, KeyError, TypeError, AttributeError, RecursionError):
                     raise Refused(
                         f"{shown(self.path)}: line {number} is damaged; without it its file is looked at anew"
                     ) from None
@@ -159,16 +180,23 @@ class Manifest:
                 kept.add(path)
             elif path in kept:
                 continue
-            last[path] = number
+            if line["state"] == GONE:
+                last.pop(path, None)
+            else:
+                last[path] = number
         return last
 
     def add(self, lines: list[dict[str, Any]]) -> None:
         """Adds lines, each whole or not at all. They are synced once a second, and by close."""
         data = b"".join(json.dumps(line).encode() + b"\n" for line in lines)
+        if self._is_torn:
+            raise OSError(errno.EIO, os.strerror(errno.EIO))
         try:
             write_all(self.number, data)
         except OSError:
+            self._is_torn = True
             os.ftruncate(self.number, self.size)
+            self._is_torn = False
             raise
         self.size += len(data)
         if time.monotonic() - self.synced > 1:

@@ -73,6 +73,11 @@ class Source:
         for at in range(0, self.size, CHUNK):
             yield self.read(at, min(CHUNK, self.size - at))
 
+    def has_changed(self) -> bool:
+        """Whether anything was done to the file since it was opened, also what leaves its bytes as they are."""
+        now = os.fstat(self.number)
+        return identity(now) != identity(self.stat) or now.st_ctime_ns != self.stat.st_ctime_ns
+
     def check(self) -> None:
         """Raises Changed if the file isn't what it was when it was opened, or another one has its name."""
         try:

@@ -43,7 +43,7 @@ class Progress:
         self.after += line.get("bytes_after", 0)
         if state == "copied":
             self.reasons[line["why"]] += 1
-        if state in ("failed", "left"):
+        if state in ("failed", "left", "gone"):
             self.say(f"{name}: {line['why']}")
         if state == "failed" and len(self.failures) < 1000:
             self.failures.append({key: value for key, value in line.items() if key.startswith("path") or key == "why"})

@@ -6,8 +6,10 @@ its values are taken in that order.
 
 from __future__ import annotations
 
+import errno
 import os
 import shutil
+import signal
 import subprocess
 import tempfile
 from collections.abc import Iterator
@@ -18,6 +20,9 @@ from . import Refused
 from .coded import Picture, front_of, picture_of, planar_of
 from .elements import Left
 from .places import Source
+
+# What a file may take besides its frames, in bytes.
+MARGIN = 1 << 20
 
 
 def has(name: str) -> None:
@@ -55,6 +60,13 @@ def by_gdcm(coded: Source, picture: Picture) -> Iterator[np.ndarray]:
         yield picture.array(data[at : at + picture.frame_size], planar)
 
 
+def _check_space(room: str, picture: Picture) -> None:
+    """Raises OSError if a folder can't take what DCMTK writes: then it isn't the file that is at fault."""
+    there = os.statvfs(room)
+    if there.f_bavail * there.f_frsize < picture.size + MARGIN:
+        raise OSError(errno.ENOSPC, os.strerror(errno.ENOSPC), room)
+
+
 def by_dcmtk(coded: Source, picture: Picture) -> Iterator[np.ndarray]:
     """The frames' values by DCMTK."""
     with tempfile.TemporaryDirectory() as room:
@@ -65,7 +77,10 @@ def by_dcmtk(coded: Source, picture: Picture) -> Iterator[np.ndarray]:
             stdout=subprocess.DEVNULL,
             stderr=subprocess.PIPE,
         )
+        if done.returncode == -signal.SIGKILL:
+            raise OSError(errno.EINTR, "dcmdjpls was killed")
         if done.returncode != 0:
+            _check_space(room, picture)
             said = done.stderr.decode(errors="replace").strip().splitlines() or [f"status {done.returncode}"]
             raise Left(f"DCMTK can't decode it: {said[-1]}")
         with Source(os.fsencode(raw)) as file:

@@ -9,31 +9,28 @@ from __future__ import annotations
 
 import contextlib
 import errno
-import fcntl
-import json
+import itertools
 import os
 import queue
 import signal
 import stat
-import sys
 import threading
 from collections.abc import Iterator, Sequence
 from dataclasses import dataclass
 from typing import Any, Callable, Optional, Union
 
-from .._files import sync_folder, write_all
+from .._files import sync_folder
 from . import Refused, second
 from .each import Job, Line, failed
-from .manifest import KEPT, NAME, Manifest, named, path_in
+from .manifest import GONE, KEPT, NAME, Manifest, named, path_in
 from .places import PART, make_folders, shown, standing
 from .progress import Progress
+from .verified import Verified
 from .work import Dask, Lost, Processes, Workers, run
 
 # How many files, and of how many bytes, a worker gets at a time: a process here, and a worker of a scheduler.
 BATCH_FILES, DASK_FILES = 16, 64
 BATCH_BYTES = 1 << 26
-# The lines of a verification that hasn't ended.
-VERIFIED = b".jlsrec-verified.jsonl"
 INTERRUPTED = 130
 
 
@@ -60,7 +57,7 @@ class Entry:
 
     @property
     def is_folder(self) -> bool:
-        """Whether it is a folder that has nothing."""
+        """Whether it is a folder; one that `walk` answers has nothing."""
         return self.stat is not None and stat.S_ISDIR(self.stat.st_mode)
 
     @property
@@ -70,42 +67,69 @@ class Entry:
         return is_regular and not PART.fullmatch(os.path.basename(self.path))
 
 
-def walk(root: bytes, path: bytes = b"") -> Iterator[Entry]:
-    """All files, links and empty folders of a tree, folder by folder, by their names. No link is followed."""
-    try:
-        with os.scandir(os.path.join(root, path) if path else root) as found:
-            entries = sorted(found, key=lambda entry: entry.name)
-    except OSError as error:
-        if not path:
-            raise
-        yield Entry(path, None, error.strerror or str(error))
-        return
-    if not entries and path:
-        yield Entry(path, os.lstat(os.path.join(root, path)))
-    for entry in entries:
-        below = os.path.join(path, entry.name)
-        try:
-            of = entry.stat(follow_symlinks=False)
-        except OSError as error:
-            yield Entry(below, None, error.strerror or str(error))
-            continue
-        if stat.S_ISDIR(of.st_mode):
-            yield from walk(root, below)
+def walk(root: bytes, apart: Optional[os.stat_result] = None) -> Iterator[Entry]:
+    """All files, links and empty folders of a tree, folder by folder, by their names. No link is followed.
+
+    Raises Refused at a folder that is to be apart, and is in the tree by another name, as a mount makes one.
+    """
+    waiting = [_found(root, b"")]
+    while waiting:
+        below = next(waiting[-1], None)
+        if below is None:
+            waiting.pop()
+        elif not below.is_folder:
+            yield below
         else:
-            yield Entry(below, of)
+            if apart is not None and below.stat is not None and os.path.samestat(below.stat, apart):
+                raise Refused(f"{shown(os.path.join(root, below.path))}: it is OUT by another name")
+            try:
+                found = _found(root, below.path)
+            except OSError as error:
+                yield Entry(below.path, None, error.strerror or str(error))
+                continue
+            first = next(found, None)
+            if first is None:
+                yield below
+            else:
+                waiting.append(itertools.chain([first], found))
+
+
+def _found(root: bytes, path: bytes) -> Iterator[Entry]:
+    """What a folder has, by its names."""
+    with os.scandir(os.path.join(root, path) if path else root) as found:
+        entries = sorted(found, key=lambda entry: entry.name)
+    return (_entry(os.path.join(path, each.name), each) for each in entries)
+
+
+def _entry(path: bytes, of: os.DirEntry[bytes]) -> Entry:
+    try:
+        return Entry(path, of.stat(follow_symlinks=False))
+    except OSError as error:
+        return Entry(path, None, error.strerror or str(error))
+
+
+def each_below(root: bytes) -> Iterator[os.DirEntry[bytes]]:
+    """All that is below a folder, in any order, and not looked at any closer. What can't be read is passed over."""
+    waiting = [root]
+    while waiting:
+        with contextlib.suppress(OSError), os.scandir(waiting.pop()) as found:
+            for entry in found:
+                if entry.is_dir(follow_symlinks=False):
+                    waiting.append(entry.path)
+                yield entry
 
 
 class Listing(threading.Thread):
     """A tree's entries, found ahead of those who take them, so that it is known how many there are."""
 
-    def __init__(self, root: bytes, progress: Progress) -> None:
+    def __init__(self, root: bytes, out: bytes, progress: Progress) -> None:
         super().__init__(daemon=True)
-        self._root, self._progress = root, progress
+        self._root, self._out, self._progress = root, os.stat(out), progress
         self._queue: queue.SimpleQueue[Union[Entry, BaseException, None]] = queue.SimpleQueue()
 
     def run(self) -> None:
         try:
-            for entry in walk(self._root):
+            for entry in walk(self._root, apart=self._out):
                 self._progress.files += not entry.is_folder
                 self._progress.bytes += entry.stat.st_size if entry.is_file else 0
                 self._queue.put(entry)
@@ -173,13 +197,13 @@ class Run:
     def work(self, job: Job, items: Iterator[Optional[tuple[Any, int]]], done: Callable[[list[Line]], None]) -> None:
         """Has all items done, as far as that goes."""
         workers = self.workers()
-        try:
-            with self._until_signalled():
+        with self._until_signalled():
+            try:
                 run(workers, job, self.batched(items), self._counting(done), self._look)
-        except Lost as why:
-            self.stop(str(why))
-        finally:
-            workers.close()
+            except Lost as why:
+                self.stop(str(why))
+            finally:
+                workers.close()
 
     def _counting(self, done: Callable[[list[Line]], None]) -> Callable[[list[Line]], None]:
         def counted(lines: list[Line]) -> None:
@@ -238,29 +262,42 @@ def compress(words: Words) -> int:
     with contextlib.closing(Manifest(words.out, True)) as manifest:
         going = Run(words)
         _remove_parts(words.out)
-        known = Known(manifest)
+        known = Known(manifest, words.second)
         job = Job("compress", words.tree, words.out, str(manifest.token), words.second)
-        listing = Listing(words.tree, going.progress)
+        listing = Listing(words.tree, words.out, going.progress)
         listing.start()
         going.work(job, _to_compress(listing, known, going, manifest), manifest.add)
+        if not going.is_stopped:
+            _forget(known, going, manifest)
         # Workers that died meanwhile leave some too.
         _remove_parts(words.out)
-        with contextlib.suppress(OSError):
+        try:
             manifest.sync()
+        except OSError as error:
+            going.stop(f"{error.strerror or error}: the manifest can't be synced")
         return going.end()
 
 
 class Known:
     """What the manifest says already: of a file its bytes and time before and its bytes after; else its line."""
 
-    def __init__(self, manifest: Manifest) -> None:
+    def __init__(self, manifest: Manifest, second: Optional[str]) -> None:
         self.files: dict[bytes, tuple[int, int, int]] = {}
+        # The files that were compressed and weren't read by the second decoder that is asked for.
+        self.unread: set[bytes] = set()
         self.others: dict[bytes, Line] = {}
+        # What failed, and wasn't met again in this run.
+        self.failed: set[bytes] = set()
         for line in manifest.lines():
+            path = path_in(line)
             if line["state"] in KEPT:
-                self.files[path_in(line)] = line["bytes_before"], line["mtime_ns"], line["bytes_after"]
-            elif line["state"] != "failed":
-                self.others[path_in(line)] = line
+                self.files[path] = line["bytes_before"], line["mtime_ns"], line["bytes_after"]
+                is_unread = line["state"] == "compressed" and second not in (None, line.get("second"))
+                (self.unread.add if is_unread else self.unread.discard)(path)
+            elif line["state"] not in ("failed", GONE):
+                self.others[path] = line
+            (self.failed.add if line["state"] == "failed" else self.failed.discard)(path)
+        self.failed.difference_update(self.files)
 
 
 def _to_compress(
@@ -271,7 +308,9 @@ def _to_compress(
     for entry in listing.entries():
         if entry is None:
             yield None
-        elif entry.is_folder:
+            continue
+        known.failed.discard(entry.path)
+        if entry.is_folder:
             with contextlib.suppress(OSError):
                 make_folders(out, entry.path)
         elif not entry.is_file:
@@ -282,15 +321,36 @@ def _to_compress(
                 _record(line, going, manifest)
         else:
             assert entry.stat is not None
-            there = standing(os.path.join(out, entry.path)) if entry.path in known.files else None
+            there, why = None, ""
             before, time, after = known.files.get(entry.path, (0, 0, 0))
-            why = "" if there is None else _difference(entry.stat, there, before, after)
+            try:
+                there = standing(os.path.join(out, entry.path)) if entry.path in known.files else None
+                why = "" if there is None else _difference(entry.stat, there, before, after)
+            except OSError as error:
+                why = error.strerror or str(error)
             if why:
                 _record(failed(entry.path, why), going, manifest)
-            elif there is not None and entry.stat.st_mtime_ns == time:
+            elif there is not None and entry.stat.st_mtime_ns == time and entry.path not in known.unread:
                 going.progress.skip(entry.stat.st_size)
             else:
                 yield entry.path, entry.stat.st_size
+
+
+def _forget(known: Known, going: Run, manifest: Manifest) -> None:
+    """Says in the manifest of what once failed that the tree hasn't it any more: OUT needn't have it then."""
+    assert going.words.tree is not None
+    lines = []
+    for path in sorted(known.failed):
+        with contextlib.suppress(OSError):
+            there = standing(os.path.join(going.words.tree, path))
+            if there is None or stat.S_ISDIR(there.st_mode):
+                lines.append({**named(path), "state": GONE, "why": "the tree has no such file any more"})
+    try:
+        manifest.add(lines)
+    except OSError as error:
+        going.stop(f"{error.strerror or error}: no line can be added to the manifest")
+    for line in lines:
+        going.count(line)
 
 
 def _difference(source: os.stat_result, there: os.stat_result, before: int, after: int) -> str:
@@ -352,7 +412,7 @@ def _check_apart(tree: bytes, out: bytes) -> None:
     if not os.path.isdir(tree):
         raise Refused(f"{shown(tree)}: there is no such folder")
     one, other = os.path.realpath(tree), os.path.realpath(out)
-    if os.path.commonpath([one, other]) in (one, other):
+    if os.path.commonpath([one, other]) in (one, other) or os.path.isdir(out) and os.path.samefile(tree, out):
         raise Refused(f"{shown(out)}: one folder is in the other")
 
 
@@ -364,11 +424,10 @@ def _make_out(out: bytes) -> None:
 
 def _remove_parts(root: bytes) -> None:
     """Removes the files that a run left before they were whole."""
-    for folder, _, names in os.walk(root):
-        for name in names:
-            if PART.fullmatch(name):
-                with contextlib.suppress(OSError):
-                    os.unlink(os.path.join(folder, name))
+    for entry in each_below(root):
+        if PART.fullmatch(entry.name) and not entry.is_dir(follow_symlinks=False):
+            with contextlib.suppress(OSError):
+                os.unlink(entry.path)
 
 
 def restore(words: Words) -> int:
@@ -382,9 +441,13 @@ def restore(words: Words) -> int:
         going = Run(words)
         last = manifest.last()
         _remove_parts(words.tree)
-        for folder, _, _ in os.walk(words.out):
-            if folder != words.out:
-                make_folders(words.tree, os.path.relpath(folder, words.out))
+        for entry in each_below(words.out):
+            if entry.is_dir(follow_symlinks=False):
+                path = os.path.relpath(entry.path, words.out)
+                try:
+                    make_folders(words.tree, path)
+                except OSError as error:
+                    going.count(failed(path, error.strerror or str(error)))
         job = Job("restore", words.tree, words.out, str(manifest.token))
         links: list[Line] = []
         going.work(job, _to_restore(manifest, last, going, links), lambda lines: None)
@@ -425,10 +488,11 @@ def verify(words: Words) -> int:
         going = Run(words)
         last = manifest.last()
         job = Job("verify", words.tree, words.out, str(manifest.token))
-        with Verified(words.out, words.tree is not None) as verified:
+        with Verified(words.out, words.tree, str(manifest.token)) as verified:
+            verified.begin(verified.name in last)
             going.work(job, _to_verify(manifest, last, going, verified), verified.add)
             if not going.is_stopped:
-                _find_others(words.out, last, going, "the manifest doesn't name it")
+                _find_others(words.out, last, going, "the manifest doesn't name it", (NAME, verified.name))
                 if words.tree is not None:
                     _find_others(words.tree, last, going, "OUT doesn't have it")
                 verified.remove()
@@ -443,85 +507,47 @@ def _to_verify(
     going.progress.bytes = sum(line.get("bytes_before", 0) for line in _lines_that_hold(manifest, last))
     for line in _lines_that_hold(manifest, last):
         path = path_in(line)
-        if path in verified.good:
-            going.progress.skip(line["bytes_before"])
-        elif line["state"] in KEPT:
-            yield line, line["bytes_before"]
+        if line["state"] in KEPT:
+            if verified.has(line):
+                going.progress.skip(line["bytes_before"])
+            else:
+                yield line, line["bytes_before"]
         elif line["state"] == "failed":
             going.count(failed(path, f"OUT never had it: {line['why']}"))
         elif line["state"] == "link":
-            going.count(_verified_link(going.words.out, line))
+            going.count(_verified_link(going.words, line))
+        elif going.words.tree is not None and _is_file(os.path.join(going.words.tree, path)):
+            going.count(failed(path, "OUT doesn't have it: it wasn't a file when the tree was compressed"))
         else:
             going.count(line)
 
 
-def _verified_link(out: bytes, line: Line) -> Line:
-    path = path_in(line)
+def _is_file(place: bytes) -> bool:
     try:
-        is_same = os.readlink(os.path.join(out, path)) == bytes.fromhex(line["to_hex"])
+        return stat.S_ISREG(os.lstat(place).st_mode)
     except OSError:
-        is_same = False
-    return {**named(path), "state": "verified"} if is_same else failed(path, "it isn't the link that the manifest says")
+        return False
 
 
-def _find_others(root: bytes, last: dict[bytes, int], going: Run, why: str) -> None:
-    """Counts what a tree has and the manifest doesn't name."""
-    is_out = root == going.words.out
-    for entry in walk(root):
-        is_ours = is_out and (entry.path in (NAME, VERIFIED) or PART.fullmatch(os.path.basename(entry.path)))
-        if entry.path not in last and not entry.is_folder and not is_ours:
-            going.count(failed(entry.path, entry.why or why))
-
-
-class Verified:
-    """What a verification has found good, so that the next one goes on if it is ended.
-
-    The file goes once all was looked at.
-    """
-
-    def __init__(self, out: bytes, with_tree: bool) -> None:
-        self.path = os.path.join(out, VERIFIED)
-        self.good: set[bytes] = set()
-        self._with_tree = with_tree
-        self._number = -1
-
-    def __enter__(self) -> Verified:
-        flags = os.O_RDWR | os.O_CREAT | os.O_APPEND | os.O_CLOEXEC | os.O_NOFOLLOW
+def _verified_link(words: Words, line: Line) -> Line:
+    """The line of a link, which is to lead where the manifest says, in OUT and in the tree if there is one."""
+    path = path_in(line)
+    for root in [words.out] if words.tree is None else [words.out, words.tree]:
         try:
-            self._number = os.open(self.path, flags, 0o666)
-            fcntl.flock(self._number, fcntl.LOCK_EX | fcntl.LOCK_NB)
-        except BlockingIOError:
-            os.close(self._number)
-            raise Refused(f"{shown(self.path)}: another run is at work on it") from None
-        except OSError as error:
-            print(f"verify: {shown(self.path)}: {error.strerror}: a run that is ended will begin anew", file=sys.stderr)
-            return self
-        with open(self.path, "rb") as file:
-            for line in file:
-                with contextlib.suppress(ValueError, KeyError, TypeError, Refused):
-                    found = json.loads(line)
-                    if found["with_tree"] or not self._with_tree:
-                        self.good.add(path_in(found))
-        # A line that was torn is ended, and says nothing.
-        write_all(self._number, b"\n")
-        return self
+            is_same = os.readlink(os.path.join(root, path)) == bytes.fromhex(line["to_hex"])
+        except OSError:
+            is_same = False
+        if not is_same:
+            return failed(path, f"{'OUT' if root == words.out else 'the tree'} hasn't the link that the manifest says")
+    return {**named(path), "state": "verified"}
 
-    def add(self, lines: list[Line]) -> None:
-        """Adds what was found good."""
-        if self._number >= 0:
-            good = [line for line in lines if line["state"] == "verified"]
-            data = [json.dumps({**named(path_in(line)), "with_tree": self._with_tree}) + "\n" for line in good]
-            with contextlib.suppress(OSError):
-                write_all(self._number, "".join(data).encode())
 
-    def remove(self) -> None:
-        """Ends the list: the next verification begins anew."""
-        with contextlib.suppress(OSError):
-            os.unlink(self.path)
-
-    def __exit__(self, *error: object) -> None:
-        if self._number >= 0:
-            os.close(self._number)
+def _find_others(root: bytes, last: dict[bytes, int], going: Run, why: str, ours: Sequence[bytes] = ()) -> None:
+    """Counts what a tree has and the manifest doesn't name, but for our own files."""
+    for entry in walk(root):
+        is_part = root == going.words.out and PART.fullmatch(os.path.basename(entry.path))
+        if entry.path not in last and entry.path not in ours and not entry.is_folder and not is_part:
+            going.count(failed(entry.path, entry.why or why))
 
 
 def check_second(name: Optional[str]) -> None:

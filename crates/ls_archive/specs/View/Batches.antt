@@ -1,5 +1,5 @@
 -- A check by an index, batch by batch: lines that are taken at once, and what is found for them, whoever looks at their codestreams.
-use Rattle.std.specs.Prelude.{◌≡◌, ◌⊎◌, ◌↔◌, ℕ, ◌+◌, ◌<◌, Bool, true, false, IsTrue, List, [], ◌∷◌, length, Option, Result, Err, IfOk}
+use Rattle.std.specs.Prelude.{◌≡◌, ◌⊎◌, ◌↔◌, ℕ, ◌+◌, ◌<◌, Bool, true, false, IsTrue, List, [], ◌∷◌, length, Option, Result, Err, IfOk, OnErr}
 use Rattle.ls_frame.specs.View.Devices.{count_after}
 use Rattle.ls_frame.specs.View.Known.{Tells, Gave, WasAtEnd, known}
 use Rattle.ls_archive.specs.declared.checking.CheckFault.{CheckFault}
@@ -12,7 +12,7 @@ use Rattle.ls_archive.specs.declared.checking.batches.After.TheVariants.{More, E
 use Rattle.ls_archive.specs.declared.checking.batches.Batch.{Batch}
 use Rattle.ls_archive.specs.declared.checking.batches.Listed.{Listed}
 use Rattle.ls_archive.specs.declared.checking.batches.SoFar.{SoFar}
-use Rattle.ls_archive.specs.View.Checking.{Line, IsLine}
+use Rattle.ls_archive.specs.View.Checking.{Line, IsLine, HasEntry}
 use Rattle.ls_archive.specs.View.Checks.{GaveAtMost, IsFound, HasChecked, StopsNextLine, StopsReading, blames_index, blames_recording}
 
 -- The place of a check: what is left of the index and of the recording, the number of the next line, and the offset that it must say.
@@ -44,12 +44,19 @@ abbrev pub AreTaken : Place → Place → List Listed → Type 0
 AreTaken at next [] = at ≡ next
 AreTaken at next (job ∷ jobs) = (mid : Place) × IsTaken at mid job × AreTaken mid next jobs
 
+-- This fault is in the next line; or in the bytes of that line, or, after the last line, in the recording's next byte.
+abbrev pub StopsTaking : Place → Option (List ℕ) → Option (List ℕ) → CheckFault → Type 0
+StopsTaking at index recording fault =
+    StopsNextLine at.index index at.number at.offset fault
+    ⊎ (((l : Line) × IsLine at.number at.offset l × Gave at.index index (λ bytes. l.text ≡ bytes) × StopsReading at.recording recording l.size fault)
+    ⊎ (WasAtEnd at.index index × StopsReading at.recording recording 1 fault))
+
 -- what follows the lines that were taken, and leaves this of both readers
 abbrev pub ComesAfter : Place → Option (List ℕ) → Option (List ℕ) → After → Type 0
 ComesAfter at index recording More = (at.index ≡ index) × (at.recording ≡ recording)
 ComesAfter at index recording (End more) =
     WasAtEnd at.index index × (Tells at.recording → IsTrue more ↔ (0 < length (known at.recording)))
-ComesAfter at index recording (Fault fault) = StopsNextLine at.index at.number at.offset fault ⊎ StopsReading fault
+ComesAfter at index recording (Fault fault) = StopsTaking at index recording fault
 
 -- At this place the readers gave the batch's lines with their bytes, and then what follows these; this is left of both readers.
 pub record IsBatch (at : Place) (index recording : Option (List ℕ)) (batch : Batch) : Type 0 where
@@ -59,12 +66,14 @@ pub record IsBatch (at : Place) (index recording : Option (List ℕ)) (batch : B
 
 -- ---- what is found
 
--- A listed codestream's bytes were looked at, and what is wrong with them was found, unless an allocation failed.
+-- A listed codestream's bytes were looked at, and what is wrong with them was found, unless an allocation failed: none is needed to see that
+-- they aren't complete by their markers and headers.
 pub record IsLookedAt (job job' : Listed) : Type 0 where
   pub number : job'.number ≡ job.number
   pub offset : job'.offset ≡ job.offset
   pub line : job'.line ≡ job.line
   pub found : IfOk job'.damage (IsFound job'.number job'.offset (line_of job'.line) job.bytes.items)
+  pub memory : OnErr job'.damage (HasEntry job.bytes.items)
 
 -- At this place the readers gave the line of a listed codestream and its bytes, and it says what was found of these, unless an allocation failed; the
 -- check is then at the next place.
@@ -98,9 +107,9 @@ LeadsOn told told' so_far so_far' jobs left =
     (index recording : Option (List ℕ)) (found : Option (List Finding)) (at next : Place) → HasCheckedTo index recording found told at so_far → AreLooked at next jobs
     → (mid : Place) × HasCheckedTo index recording found told' mid so_far' × AreLooked mid next left
 
--- the same, for some state and some codestreams left
+-- the same, for some state and some codestreams left, at least one
 abbrev pub LeadsSomewhere : Option (List Finding) → Option (List Finding) → SoFar → List Listed → Type 0
-LeadsSomewhere told told' so_far jobs = (so_far' : SoFar) × (left : List Listed) × LeadsOn told told' so_far so_far' jobs left
+LeadsSomewhere told told' so_far jobs = (so_far' : SoFar) × (next : Listed) × (left : List Listed) × LeadsOn told told' so_far so_far' jobs (next ∷ left)
 
 -- ---- reads that failed
 

@@ -79,6 +79,10 @@ texts (l ∷ ls) = l.text ++ texts ls
 
 -- ---- codestreams
 
+-- The bytes are a codestream that is complete by its markers and headers.
+abbrev pub HasEntry : List ℕ → Type 0
+HasEntry bytes = (entry : Entry) × IsEntry entry × (entry.bytes ≡ bytes)
+
 -- The bytes have an entry, and the text is its line as number n, with their sum or without.
 pub record HasLine (n offset : ℕ) (text bytes : List ℕ) : Type 0 where
   pub entry : Entry

@@ -1,7 +1,8 @@
 -- What a check by an index says of its two readers and of the findings that it reports.
 use Rattle.std.specs.Prelude.{◌≡◌, ◌⊎◌, ◌↔◌, ℕ, ◌<◌, ◌≤◌, Bool, true, false, IsTrue, List, [], ◌∷◌, ◌++◌, length, take, drop, codes, Option, None, Some}
 use Rattle.ls_film.specs.Film.{most_frames}
-use Rattle.ls_frame.specs.View.Known.{Tells, Gave, known}
+use Rattle.ls_film.specs.View.Memory.{HasBytes}
+use Rattle.ls_frame.specs.View.Known.{Tells, Gave, HadBytes, known}
 use Rattle.ls_archive.specs.declared.checking.Damage.{Damage}
 use Rattle.ls_archive.specs.declared.checking.Finding.{Finding}
 use Rattle.ls_archive.specs.declared.checking.Checked.{Checked}
@@ -107,30 +108,61 @@ BeginsOtherwise n offset bytes = (0 < length bytes) × (BeginsWithLine n offset 
 abbrev pub Anything : ℕ → List ℕ → Type 0
 Anything offset bytes = Unit {0}
 
--- What each fault says: the line of this number isn't a line of an index; a read or an allocation failed; there is one line more than an
--- index may have.
+-- Not all was read: these bytes of the index are left, or the recording goes on at this offset.
+abbrev pub GoesOn : Option (List ℕ) → ℕ → List ℕ → Type 0
+GoesOn recording offset rest = HasBytes rest ⊎ (Tells recording → offset < length (known recording))
+
+-- What each fault says: the line of this number isn't a line of an index; a read failed; an allocation failed, which it never does when
+-- all was read; there is one line more than an index may have.
 abbrev pub Stops : Option (List ℕ) → Option (List ℕ) → Option (List Finding) → Option (List Finding) → CheckFault → Type 0
 Stops index recording found found' (fault.Line n) = StopsAfter index recording found found' n (BeginsOtherwise n)
 Stops index recording found found' fault.IndexIo = (m : ℕ) × StopsAfter index recording found found' m Anything
 Stops index recording found found' fault.Io = (m : ℕ) × StopsAfter index recording found found' m Anything
-Stops index recording found found' fault.NoMemory = (m : ℕ) × StopsAfter index recording found found' m Anything
+Stops index recording found found' fault.NoMemory = (m : ℕ) × StopsAfter index recording found found' m (GoesOn recording)
 Stops index recording found found' fault.TooMany = StopsAfter index recording found found' most_frames (BeginsWithLine most_frames)
 
--- what a stop at line n, whose codestream begins at this offset, says of the index's bytes
-abbrev pub StopsNextLine : Option (List ℕ) → ℕ → ℕ → CheckFault → Type 0
-StopsNextLine index n offset (fault.Line m) = (m ≡ n) × (Tells index → BeginsOtherwise n offset (known index))
-StopsNextLine index n offset fault.IndexIo = Unit {0}
-StopsNextLine index n offset fault.Io = ⊥
-StopsNextLine index n offset fault.NoMemory = Unit {0}
-StopsNextLine index n offset fault.TooMany = ⊥
+-- ---- where a read failed
 
--- the faults that a read of the recording can have
-abbrev pub StopsReading : CheckFault → Type 0
-StopsReading (fault.Line m) = ⊥
-StopsReading fault.IndexIo = ⊥
-StopsReading fault.Io = Unit {0}
-StopsReading fault.NoMemory = Unit {0}
-StopsReading fault.TooMany = ⊥
+-- The index gave a front of these bytes that has no LF, and then a read of it failed.
+abbrev pub FailsInLine : Option (List ℕ) → ℕ → List ℕ → Type 0
+FailsInLine index' offset rest = Tells index' × (front : List ℕ) × (rest ≡ front ++ known index') × HasNoLineFeed front
+
+-- The recording gave fewer than this many bytes of those from the offset on, and then a read of it failed.
+abbrev pub FailsWithin : Option (List ℕ) → Option (List ℕ) → ℕ → ℕ → Type 0
+FailsWithin recording recording' most offset = Tells recording →
+    Tells recording' × (front : List ℕ) × (drop offset (known recording) ≡ front ++ known recording') × (length front < most)
+
+-- The index gave line n, which begins these bytes, and the recording a part of that line's bytes, and then a read of the recording failed; or
+-- these bytes are none, and the read that failed was of the recording's next byte.
+abbrev pub FailsInBytes : Option (List ℕ) → Option (List ℕ) → Option (List ℕ) → ℕ → ℕ → List ℕ → Type 0
+FailsInBytes index' recording recording' n offset rest =
+    ((l : Line) × IsLine n offset l × (rest ≡ l.text ++ known index') × FailsWithin recording recording' l.size offset)
+    ⊎ ((rest ≡ []) × FailsWithin recording recording' 1 offset)
+
+-- If a read failed, the findings on all lines whose bytes were read before were reported: those on the m lines before the one that couldn't be
+-- read, or whose bytes couldn't. What each reader has left, and the findings, come before and after.
+abbrev pub Fails : Option (List ℕ) → Option (List ℕ) → Option (List ℕ) → Option (List ℕ) → Option (List Finding) → Option (List Finding) → CheckFault → Type 0
+Fails index index' recording recording' found found' (fault.Line n) = Unit {0}
+Fails index index' recording recording' found found' fault.IndexIo = (m : ℕ) × StopsAfter index recording found found' m (FailsInLine index')
+Fails index index' recording recording' found found' fault.Io = (m : ℕ) × StopsAfter index recording found found' m (FailsInBytes index' recording recording' m)
+Fails index index' recording recording' found found' fault.NoMemory = Unit {0}
+Fails index index' recording recording' found found' fault.TooMany = Unit {0}
+
+-- what a stop at line n, whose codestream begins at this offset, says of the index's bytes, before and after it
+abbrev pub StopsNextLine : Option (List ℕ) → Option (List ℕ) → ℕ → ℕ → CheckFault → Type 0
+StopsNextLine index index' n offset (fault.Line m) = (m ≡ n) × (Tells index → BeginsOtherwise n offset (known index))
+StopsNextLine index index' n offset fault.IndexIo = Gave index index' HasNoLineFeed
+StopsNextLine index index' n offset fault.Io = ⊥
+StopsNextLine index index' n offset fault.NoMemory = HadBytes index
+StopsNextLine index index' n offset fault.TooMany = ⊥
+
+-- what a stop at this many bytes of the recording says of its bytes, before and after it
+abbrev pub StopsReading : Option (List ℕ) → Option (List ℕ) → ℕ → CheckFault → Type 0
+StopsReading recording recording' most (fault.Line m) = ⊥
+StopsReading recording recording' most fault.IndexIo = ⊥
+StopsReading recording recording' most fault.Io = Gave recording recording' (λ front. length front < most)
+StopsReading recording recording' most fault.NoMemory = HadBytes recording
+StopsReading recording recording' most fault.TooMany = ⊥
 
 -- whether a check failed because a read of the index did, and because a read of the recording did
 abbrev pub blames_index : CheckFault → Bool

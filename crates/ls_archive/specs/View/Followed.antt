@@ -1,5 +1,5 @@
 -- How far a recording has been followed whose index is written with it.
-use Rattle.std.specs.Prelude.{ℕ, ◌+◌, ◌*◌, ◌^◌, ◌≤◌, List, []}
+use Rattle.std.specs.Prelude.{◌≡◌, ◌⊎◌, ℕ, ◌+◌, ◌*◌, ◌^◌, ◌≤◌, List, [], ◌++◌}
 use Rattle.ls_film.specs.Film.{most_frames}
 
 -- The bytes since the end of the last codestream, which are held back; and of the codestreams before them: their number, their total size,
@@ -27,3 +27,8 @@ pub record IsFollowed (f : Followed) : Type 0 where
   pub few : f.number ≤ most_frames
   pub bounded : f.offset ≤ 2 ^ 32 * f.number
   pub small : f.written ≤ 2 ^ 32 * f.number
+
+-- What is held back once these bytes were followed: nothing if a codestream ends with them, which is counted; else they too, and nothing is
+-- counted.
+abbrev pub HoldsBack : List ℕ → Followed → Followed → Type 0
+HoldsBack bytes old new = ((new.pending ≡ []) × (new.number ≡ old.number + 1)) ⊎ (new ≡ holding (old.pending ++ bytes) old)

@@ -1,13 +1,14 @@
 -- An index that is written while its recording is being written.
 use Rattle.std.specs.Prelude.{◌≡◌, ℕ, true, List, [], ◌++◌, Option, None, Some}
+use Rattle.std.specs.Io.KnownBytes.{Appends}
 use Rattle.ls_frame.specs.Picture.{Picture}
 use Rattle.ls_stream.specs.Grammar.{Spells}
 use Rattle.ls_archive.specs.declared.following.Follower.{Follower}
 use Rattle.ls_archive.specs.declared.following.Indexing.{Indexing}
 use Rattle.ls_archive.specs.declared.faults.IndexFault.{IndexFault}
 use Rattle.ls_archive.specs.declared.faults.IndexFault.TheVariants.{Stream, Io, Output, NoMemory, TooMany}
-use Rattle.ls_archive.specs.View.Followed.{Followed}
-use Rattle.ls_archive.specs.View.Indexing.{HasRun, Stops}
+use Rattle.ls_archive.specs.View.Followed.{Followed, HoldsBack}
+use Rattle.ls_archive.specs.View.Indexing.{HasRun, Stops, Completes}
 
 module _ {I : Type 0} where
   -- what the index is written to
@@ -67,5 +68,30 @@ module _ {I : Type 0} (contents : I → Option (List ℕ)) (bytes : List ℕ) wh
   IsTold None None new why = (new ≡ None) × (why ≡ None)
   IsTold (Some f) None None why = ⊥
   IsTold (Some f) None (Some g) None =
-      FollowsOn bytes (contents (index_of f)) (contents (index_of g)) (followed f) (followed g) × SpellNoFrame (followed g).pending
+      FollowsOn bytes (contents (index_of f)) (contents (index_of g)) (followed f) (followed g)
+      × SpellNoFrame (followed g).pending × HoldsBack bytes (followed f) (followed g)
   IsTold (Some f) None (Some g) (Some fault) = StopsFollowing bytes (contents (index_of f)) (contents (index_of g)) (followed f) fault × IsOfWriting fault
+
+-- ---- over all calls
+
+module _ {I : Type 0} (contents : I → Option (List ℕ)) (begun : Option (List ℕ)) (bytes : List ℕ) where
+  -- What there is of the index of a recording of these bytes, begun after what its writer had: none is written; or exactly the lines of the
+  -- recording's codestreams are, and the bytes after these aren't a codestream of a frame; or it stopped within them, for this fault.
+  abbrev pub HasIndexed : Option (Follower I) → Option IndexFault → Type 0
+  HasIndexed None None = Unit {0}
+  HasIndexed None (Some fault) = ⊥
+  HasIndexed (Some f) None = HasFollowed bytes begun (contents (index_of f)) (followed f) × SpellNoFrame (followed f).pending
+  HasIndexed (Some f) (Some fault) =
+      (front : List ℕ) × (rest : List ℕ) × (bytes ≡ front ++ rest) × Stops true (Some front) (Some []) begun (contents (index_of f)) fault × IsOfWriting fault
+
+  -- If the index didn't stop, and no bytes are held back, it is complete: it is what `write_index` writes for these bytes.
+  abbrev pub IsComplete : Option (Follower I) → Option IndexFault → Type 0
+  IsComplete None why = Unit {0}
+  IsComplete (Some f) None = (followed f).pending ≡ [] → Completes true (Some bytes) (Some []) begun (contents (index_of f)) (followed f).number
+  IsComplete (Some f) (Some fault) = Unit {0}
+
+module _ {W I : Type 0} (recorded : W → Option (List ℕ)) (indexed : I → Option (List ℕ)) (start begun : Option (List ℕ)) where
+  -- These bytes were written: the recording's writer took them after what it had at the start, and what there is of the index is of them.
+  pub record HasRecorded (bytes : List ℕ) (i : Indexing W I) : Type 0 where
+    pub recording : Appends start (recorded (recording_of i)) bytes
+    pub index : HasIndexed indexed begun bytes (following i) (broken i)

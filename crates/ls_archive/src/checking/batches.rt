@@ -171,6 +171,7 @@ fn tell_of<F: Findings>(job: &Listed, so_far: SoFar, findings: &mut F) -> Result
         → HasCheckedTo index recording found (F.found findings.old) at so_far → IsLooked at next job.now
         → IfOk result (HasCheckedTo index recording found (F.found findings.new) next) }
     ensures none { OnErr result (F.found findings.new ≡ F.found findings.old) }
+    ensures memory { OnErr result (job.now.damage ≢ Ok None) }
     ensures number { IfOk result (λ done. done.number ≡ so_far.number + 1) }
     ensures bounded { IfOk result (λ done. done.offset ≤ 2 ^ 32 * done.number) }
     ensures damaged { IfOk result (λ done. done.damaged ≤ done.number) }

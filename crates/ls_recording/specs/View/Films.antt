@@ -1,5 +1,7 @@
 -- What became of the films of a recording: of each its lane's track, and the files that were written.
 use Rattle.std.specs.Prelude.{◌≡◌, ◌⊎◌, ◌≤◌, ℕ, Bool, true, List, length, Option, Result, Ok, Err, MatchResult}
+use Rattle.std.specs.List.{AllZip}
+use Rattle.std.specs.Borrow.{Bor}
 use Rattle.std.specs.Io.KnownBytes.{Appends}
 use Rattle.ls_frame.specs.declared.netpbm.NetpbmFault.TheVariants.{Io}
 use Rattle.ls_frame.specs.declared.tuning.Tuning.{Tuning}
@@ -10,7 +12,8 @@ use Rattle.ls_film.specs.View.Given.{GaveFilm, BeginsWithFrames}
 use Rattle.ls_files.specs.declared.keeper.Targets.{Targets}
 use Rattle.ls_files.specs.View.Files.{held_by_target}
 use Rattle.ls_console.specs.View.Readers.{unread}
-use Rattle.ls_opening.specs.View.Devices.{FilmReader, FilmWriter, FilmDevices, source_of, target_of}
+use Rattle.ls_opening.specs.declared.names.Names.{Names}
+use Rattle.ls_opening.specs.View.Devices.{FilmReader, FilmWriter, FilmDevices, AreDevicesOf, source_of, target_of}
 use Rattle.ls_pieces.specs.Orders.{Ordered}
 use Rattle.ls_recorder.specs.declared.lane.LaneFault.{LaneFault}
 use Rattle.ls_recorder.specs.declared.lane.LaneFault.TheVariants.{Input, NotStarted}
@@ -53,3 +56,13 @@ module _ {O F : Type 0} where
       pub gave : GaveFilm IsImageOf (unread remaining film.0) (unread remaining reader) frames
           ⊎ ((was_stopped reader ≡ true) × BeginsWithFrames IsImageOf (unread remaining film.0) frames)
       pub wrote : Appends (held contents film.1) (held_by_target contents files.recording) (tuned_file film.2 frames)
+
+module _ {O F : Type 0} (holds : O → List ℕ → Option (List ℕ) → Type 0) (remaining contents : F → Option (List ℕ)) (opener : O) (tuning : Tuning) where
+  -- Each of these films was recorded, in their order: read from its own file, and written to the file at the path of its own recording.
+  pub record HasRecorded (films : List (Bor (List ℕ))) : Type 0 where
+    pub names : List Names
+    pub devices : List (FilmDevices O F)
+    pub files : List (Targets O F)
+    pub named : AllZip (λ film own. own.file.now ≡ film.now) films names
+    pub opened : AllZip (AreDevicesOf holds remaining opener tuning) names devices
+    pub recorded : AllZip (IsRecorded remaining contents) devices files

@@ -3,7 +3,7 @@ use Rattle.std.specs.List.{AllZip}
 use Rattle.std.proofs.lemmas.Result.{err_from_is_err_and}
 use Rattle.ls_film.specs.Film.{most_frames}
 use Rattle.ls_archive.specs.View.Batches.{IsLookedAt}
-use Rattle.ls_archive.proofs.BatchLemmas.{told-batch, stops-batch, reads-beyond, several-jobs, more-reads-no-index, more-reads-no-recording, more-comes, end-comes, fault-comes}
+use Rattle.ls_archive.proofs.BatchLemmas.{told-batch, stops-batch, reads-beyond, several-jobs, more-reads-no-index, more-reads-no-recording, more-comes, end-comes, fault-comes, failure-comes}
 use Rattle.ls_archive.proofs.CheckLemmas.{checked-none}
 use Rattle.ls_archive.proofs.checking.check_all.Goals as goal
 
@@ -60,6 +60,19 @@ returns-in-Fault-clause-stops g c =
     (g.I.Read.remaining c.take-batch.new.index) (g.R.Read.remaining c.take-batch.new.recording) told.1
     c.take-batch.result.after told.2 c.in-Fault.fault c.in-Fault.is
 
+pub returns-in-Fault-clause-fails : goal.returns-in-Fault-clause-fails
+returns-in-Fault-clause-fails g c =
+    let i = c.loop-so_far.invariant in
+    let looked = subst (AllZip IsLookedAt c.take-batch.result.jobs.items) (sym c.deref.ensures.value) c.look_at_all.ensures in
+    let told = told-batch (g.I.Read.remaining c.args.index.now) (g.R.Read.remaining c.args.recording.now) (g.F.Findings.found c.args.findings.now)
+    (g.F.Findings.found c.loop-so_far.findings) (g.F.Findings.found c.tell_all.new.findings) c.loop-so_far.so_far
+    (g.I.Read.remaining c.loop-so_far.index) (g.R.Read.remaining c.loop-so_far.recording) (g.I.Read.remaining c.take-batch.new.index) (g.R.Read.remaining c.take-batch.new.recording)
+    c.take-batch.result c.deref.result.now i.so_far c.take-batch.ensures.batch looked
+    c.in_ok-so_far.so_far c.in_ok-so_far.ensures.told in
+    failure-comes (g.I.Read.remaining c.args.index.now) (g.R.Read.remaining c.args.recording.now) (g.F.Findings.found c.args.findings.now) (g.F.Findings.found c.tell_all.new.findings) c.in_ok-so_far.so_far told.0
+    (g.I.Read.remaining c.take-batch.new.index) (g.R.Read.remaining c.take-batch.new.recording) told.1
+    c.take-batch.result.after told.2 c.in-Fault.fault c.in-Fault.is
+
 pub loop-so_far-preserved : goal.loop-so_far-preserved
 loop-so_far-preserved g c =
     let i = c.loop-so_far.invariant in
@@ -89,6 +102,17 @@ pub returns-clause-stops : goal.returns-clause-stops
 returns-clause-stops g c =
     let all : c.loop-so_far.so_far.number ≡ most_frames = omega arith in
     c.end_at_most.ensures.stops (g.I.Read.remaining c.args.index.now) (g.R.Read.remaining c.args.recording.now) (g.F.Findings.found c.args.findings.now)
+    (g.F.Findings.found c.loop-so_far.findings) (rw all at c.loop-so_far.invariant.so_far)
+
+pub returns-in_err-so_far-clause-fails : goal.returns-in_err-so_far-clause-fails
+returns-in_err-so_far-clause-fails g c =
+    let p = err_from_is_err_and c.from_residual.result c.from_residual.ensures.1 in
+    rw (p.1, p.2) tt
+
+pub returns-clause-fails : goal.returns-clause-fails
+returns-clause-fails g c =
+    let all : c.loop-so_far.so_far.number ≡ most_frames = omega arith in
+    c.end_at_most.ensures.fails (g.I.Read.remaining c.args.index.now) (g.R.Read.remaining c.args.recording.now) (g.F.Findings.found c.args.findings.now)
     (g.F.Findings.found c.loop-so_far.findings) (rw all at c.loop-so_far.invariant.so_far)
 
 pub returns-in_err-so_far-clause-index_reads : goal.returns-in_err-so_far-clause-index_reads

@@ -38,7 +38,7 @@ returns-clause-damaged c =
     IfOk-weaker c.undecoded.result _ _
     (λ found is. subst (λ found. IfSome found (λ damage. IsGood c.args.number c.args.offset c.args.line.now.text.items bytes → ⊥)) (sym is.1)
     (λ good. is.0 (c.in-Err.ensures.complete bytes [] good.frame (same ∙ sym (append-nil bytes)) good.spells)))
-    c.undecoded.ensures
+    c.undecoded.ensures.found
 
 pub returns-clause-damage : goal.returns-clause-damage
 returns-clause-damage c =
@@ -52,4 +52,4 @@ returns-clause-damage c =
     IfOk-weaker c.undecoded.result _ _
     (λ found ends. subst (λ found. IfSome found (IsDamage c.args.number c.args.offset l bytes)) (sym ends.1)
     (line, subst (λ bs. IsFirstFault bs c.in-Err.fault) same (first_fault c.bytes.result.now c.in-Err.fault c.in-Err.ensures.first ends.0)))
-    c.undecoded.ensures
+    c.undecoded.ensures.found

@@ -4,7 +4,7 @@ use Rattle.ls_stream.specs.declared.faults.StreamFault.TheVariants.{NoMemory}
 use Rattle.ls_stream.specs.View.Outlines.{IsFirstFault}
 use Rattle.ls_c.specs.Calls.{IsUnopened, but_its}
 use Rattle.ls_c.proofs.DecodingLemmas.{unopened, stopped}
-use Rattle.ls_c.proofs.OpeningLemmas.{decoded_of, fitting, form_samples, front_numbers, laid_numbers, kept_numbers, beyond_numbers}
+use Rattle.ls_c.proofs.OpeningLemmas.{decoded_of, fitting, all_fit, form_samples, front_numbers, laid_numbers, kept_numbers, beyond_numbers}
 use Rattle.ls_c.proofs.coding.decode.Goals as goal
 
 pub returns-in-Err : goal.returns-in-Err
@@ -44,6 +44,9 @@ returns-in-Err-decode_at g c =
     stopped g.S.Sample.most c.args.bytes.now (numbers slots) _ _ 0 _ first
     (λ front rest f e s. c.in-Err-decode_at.ensures.complete front rest f (c.in-Ok.ensures.bytes ∙ e) s)
     (subst (λ bytes. (first ≡ NoMemory) ⊎ IsFirstFault bytes first) c.in-Ok.ensures.bytes c.in-Err-decode_at.ensures.first)
+    (all_fit g.S.Sample.most (length (numbers slots)) c.args.bytes.now c.open.new.form c.in-Ok.opening
+    (subst (λ most. c.in-Ok.opening.parameters.maxval ≤ most) c.greatest.ensures c.in-Ok.ensures.fits.0, omega (arith, g.met.S.Sample.one_each slots, c.in-Ok.ensures.fits.1))
+    c.in-Ok.ensures.form)
     (λ _. fitting g.S.Sample.most (length (numbers slots)) c.args.bytes.now c.open.new.form c.in-Ok.opening
     (subst (λ most. c.in-Ok.opening.parameters.maxval ≤ most) c.greatest.ensures c.in-Ok.ensures.fits.0, omega (arith, g.met.S.Sample.one_each slots, c.in-Ok.ensures.fits.1))
     c.in-Ok.ensures.form)

@@ -1,5 +1,7 @@
-use Rattle.std.proofs.Common.{ℕ, get_or, List, Fits, w8, refl, ap, arith}
+use Rattle.std.proofs.Common.{ℕ, get_or, List, take, Fits, w8, refl, ap, subst, arith}
 use Rattle.ls_bits.specs.Bits.{AreBytes}
+use Rattle.ls_stream.specs.Grammar.{most_bytes}
+use Rattle.ls_stream.specs.Faults.{BeginsWithOpening}
 use Rattle.ls_stream.proofs.FrameReadingLemmas.{are_bytes}
 use Rattle.ls_c.specs.declared.form.JlsrecForm.{JlsrecForm}
 use Rattle.ls_c.specs.Calls.{too_deep, too_large, at_fault}
@@ -9,7 +11,8 @@ use Rattle.ls_c.proofs.coding.open.Goals as goal
 
 pub returns-in-Err-clause-refused : goal.returns-in-Err-clause-refused
 returns-in-Err-clause-refused c =
-    at_fault c.in-Err.first refl c.in-Err.ensures.memory c.in-Err.ensures.first c.in-Err.ensures.none c.details_of.ensures c.no_form.ensures
+    at_fault c.in-Err.first refl c.in-Err.ensures.memory c.in-Err.ensures.first
+    (λ given has. c.in-Err.ensures.unopened (subst (λ bytes. BeginsWithOpening (take most_bytes bytes)) has.of_bytes has.says.begins)) c.in-Err.ensures.none c.details_of.ensures c.no_form.ensures
 
 pub returns-then-maxval-most-clause-refused : goal.returns-then-maxval-most-clause-refused
 returns-then-maxval-most-clause-refused c =

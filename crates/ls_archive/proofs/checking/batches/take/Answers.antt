@@ -1,7 +1,8 @@
-use Rattle.std.proofs.Common.{◌≡◌, ◌+◌, [], ◌∷◌, ◌++◌, length, sym, ap, subst, arith, rules}
+use Rattle.std.proofs.Common.{◌≡◌, ◌+◌, inl, [], ◌∷◌, ◌++◌, length, sym, ap, subst, arith, rules}
 use Rattle.std.proofs.lemmas.List.{length_push}
-use Rattle.ls_archive.specs.View.Batches.{Place, IsTaken}
+use Rattle.ls_archive.specs.View.Batches.{Place, line_of, IsTaken}
 use Rattle.ls_archive.proofs.BatchLemmas.{taken-more}
+use Rattle.ls_archive.proofs.CheckLemmas.{had-line}
 use Rattle.ls_archive.proofs.checking.batches.take.Goals as goal
 
 pub loop-number-preserved : goal.loop-number-preserved
@@ -31,3 +32,14 @@ returns-in-Err-clause-batch g c = record {
   taken = c.loop-number.invariant.taken;
   after = c.in-Err.ensures.after;
 }
+
+pub returns-then-is_err-clause-batch : goal.returns-then-is_err-clause-batch
+returns-then-is_err-clause-batch g c =
+    let taken = c.in-Ok.ensures.taken in
+    let unpushed : c.push.new.self.items ≡ c.loop-number.jobs.items = search rules in
+    let mid : Place = record { index = g.I.Read.remaining c.loop-number.index; recording = g.R.Read.remaining c.loop-number.recording; number = c.loop-number.number; offset = c.loop-number.offset } in
+    record {
+      mid = mid;
+      taken = rw unpushed c.loop-number.invariant.taken;
+      after = inl (had-line mid.index (g.I.Read.remaining c.next_job.new.index) mid.number mid.offset (line_of c.in-Ok.job.line) taken.is taken.gave);
+    }

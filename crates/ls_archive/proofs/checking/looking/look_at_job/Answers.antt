@@ -13,4 +13,5 @@ returns c =
       line = refl;
       found = found-of job.number job.offset (line_of job.line) job.bytes.items c.damage_of-job.result
           (rw same at c.damage_of-job.ensures.good) (rw same at c.damage_of-job.ensures.damaged) (rw same at c.damage_of-job.ensures.damage);
+      memory = rw same at c.damage_of-job.ensures.memory;
     }

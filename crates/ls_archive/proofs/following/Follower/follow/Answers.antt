@@ -1,4 +1,4 @@
-use Rattle.std.proofs.Common.{◌≡◌, ◌+◌, ◌<◌, ◌++◌, ℕ, true, [], Some, length, sym, ap, subst, ◌∙◌, arith}
+use Rattle.std.proofs.Common.{◌≡◌, ◌+◌, ◌<◌, ◌++◌, ℕ, true, inl, inr, [], Some, length, sym, ap, subst, ◌∙◌, arith}
 use Rattle.std.proofs.lemmas.Result.{err_from_is_err_and}
 use Rattle.std.specs.Io.KnownBytes.{Appends}
 use Rattle.ls_film.specs.Film.{most_frames}
@@ -87,3 +87,16 @@ returns-clause-waits g c =
     let none : c.take.new.self ≡ holding [] old = rw c.in-Some.is at c.in_ok-indexed.ensures.none in
     let now = ap followed c.self.view_is ∙ none in
     subst (λ (f : Followed). SpellNoFrame f.pending) (sym c.step.ensures) (subst (λ (f : Followed). SpellNoFrame f.pending) (sym now) none_spells)
+
+pub returns-in_default-clause-holds : goal.returns-in_default-clause-holds
+returns-in_default-clause-holds g c = inr (rw c.in_default.is at c.in_ok-indexed.ensures.held)
+
+pub returns-clause-holds : goal.returns-clause-holds
+returns-clause-holds g c =
+    let old = followed c.args.self.now in
+    let none : c.take.new.self ≡ holding [] old = rw c.in-Some.is at c.in_ok-indexed.ensures.none in
+    let now = ap followed c.self.view_is ∙ none in
+    inl (
+      ap (λ (f : Followed). f.pending) c.step.ensures ∙ ap (λ (f : Followed). f.pending) now,
+      ap (λ (f : Followed). f.number) c.step.ensures ∙ ap (λ (f : Followed). f.number + 1) now,
+    )

@@ -3,6 +3,7 @@ use Rattle.ls_stream.specs.Grammar.{most_bytes}
 use Rattle.ls_stream.specs.View.Reading.{HasOpening, opening_at}
 use Rattle.ls_stream.specs.View.Outlines.{DecodingStops, at_opening}
 use Rattle.ls_stream.proofs.FaultLaws.{opening_begins, stops_are_first_faults}
+use Rattle.ls_stream.proofs.FirstFaultLaws.{opening_again, not_both}
 use Rattle.ls_stream.proofs.MemoryLemmas.{memory_of_first, opening_needs_none}
 use Rattle.ls_stream.proofs.FrameReadingLemmas.{are_bytes, bytes_take, no_opening}
 use Rattle.ls_stream.proofs.SkipLemmas.{not_opened}
@@ -37,6 +38,12 @@ returns-in-Err-clause-first c =
       stops_are_first_faults (take most_bytes bytes) c.in-Err.fault are
           (subst (λ first. DecodingStops first c.in-Err.fault) c.first_bytes.ensures (at_opening c.in-Err.ensures.value)),
     )
+
+pub returns-in-Err-clause-unopened : goal.returns-in-Err-clause-unopened
+returns-in-Err-clause-unopened c = λ begins.
+    let bytes = c.args.bytes.now in
+    let are = bytes_take most_bytes bytes (are_bytes bytes (λ i. let fits : Fits w8 (get_or bytes i 0) = c.type_inv.bytes i in omega arith)) in
+    not_both (take most_bytes bytes) c.in-Err.fault (opening_again (take most_bytes bytes) are begins) (ap opening_at (sym c.first_bytes.ensures) ∙ c.in-Err.ensures.value)
 
 pub returns-in-Err-clause-outline : goal.returns-in-Err-clause-outline
 returns-in-Err-clause-outline c =

@@ -1,0 +1,4 @@
+pub mod FramesLemmas
+pub mod MatchLemmas
+pub mod NumberLemmas
+pub mod PresetLemmas

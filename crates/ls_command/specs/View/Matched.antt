@@ -1,0 +1,119 @@
+-- The request that a command's matched words make. What `clap` matched of the words is given; of each argument it says the text, or the uses.
+use Rattle.std.specs.Prelude.{◌≡◌, ℕ, ◌<◌, ◌≤◌, ◌^◌, Bool, true, false, not, List, [], length, map, codes, Option, Some, None, IfSome, IfNone, option_map, unwrap_or}
+use Rattle.std.specs.Borrow.{Bor}
+use Rattle.std.specs.Str.Parse.{IsNumeral, digits_value, without_leading_plus}
+use Rattle.clap.specs.Words.{App, HasMatchesOf, subcommand_rows_of}
+use Rattle.clap.specs.declared.parser.matches.ArgMatches.{ArgMatches}
+use Rattle.clap.specs.Matches.{found_of, first_value, one_text, matched_of, raw_values, subcommand_name_of}
+use Rattle.clap.specs.Walk.{rows_of}
+use Rattle.ls_frame.specs.declared.tuning.Tuning.{Tuning}
+use Rattle.ls_command.specs.declared.frames.Frames.{Frames}
+use Rattle.ls_command.specs.declared.RecordRequest.{RecordRequest}
+use Rattle.ls_command.specs.declared.Request.{Request}
+use Rattle.ls_command.specs.declared.Request.TheVariants as request
+use Rattle.ls_command.specs.declared.limits.TheConstants.{MOST_FILMS}
+use Rattle.ls_command.specs.View.Asked.{ReadsFrames, ReadsPreset}
+
+-- the texts behind references
+abbrev pub texts_of : List (Bor (List ℕ)) → List (List ℕ)
+texts_of texts = map (λ (text : Bor (List ℕ)). text.now) texts
+
+abbrev pub text_in : Option (Bor (List ℕ)) → Option (List ℕ)
+text_in text = option_map (λ (t : Bor (List ℕ)). t.now) text
+
+module _ (words : ArgMatches) where
+  -- the argument of this name has this text
+  abbrev pub HasText : List ℕ → Option (List ℕ) → Type 0
+  HasText name text = first_value (found_of words) name ≡ text
+
+  -- whether this option was given
+  abbrev pub IsGiven : List ℕ → Bool → Type 0
+  IsGiven name given = (one_text (found_of words) name ≡ None → given ≡ false)
+      × (one_text (found_of words) name ≡ Some (codes "true") → given ≡ true) × (one_text (found_of words) name ≡ Some (codes "false") → given ≡ false)
+
+  -- the argument of this name is this number
+  abbrev pub IsNumber : List ℕ → ℕ → Type 0
+  IsNumber name n = (text : List ℕ) × (one_text (found_of words) name ≡ Some text) × IsNumeral 10 (without_leading_plus text)
+      × (digits_value 10 (without_leading_plus text) ≡ n)
+
+  -- the argument of this name is this number below a limit; none, if it is none
+  abbrev pub ReadsNumber : ℕ → List ℕ → Option ℕ → Type 0
+  ReadsNumber limit name (Some n) = IsNumber name n × (n < limit)
+  ReadsNumber limit name None = (n : ℕ) → IsNumber name n → n < limit → ⊥
+
+  -- the frames of `--frames`; none, if it isn't given
+  abbrev pub AsksFrames : Option Frames → Type 0
+  AsksFrames None = HasText (codes "frames") None
+  AsksFrames (Some frames) = (text : List ℕ) × HasText (codes "frames") (Some text) × ReadsFrames text (Some frames)
+
+  -- the workers of `--workers`, or one
+  abbrev pub AsksWorkers : ℕ → Type 0
+  AsksWorkers workers = (given : Option ℕ) × ReadsNumber (2 ^ 8) (codes "workers") given × (workers ≡ unwrap_or given 1)
+
+  -- the files that are named
+  abbrev pub files_in : List (List ℕ)
+  files_in = unwrap_or (option_map raw_values (matched_of (found_of words) (codes "FILE"))) []
+
+  -- What is asked for beside tuning and films.
+  pub record AsksSettings (asked : RecordRequest) : Type 0 where
+    pub workers : ReadsNumber (2 ^ 64) (codes "workers") (Some asked.workers)
+    pub capacity : ReadsNumber (2 ^ 64) (codes "queue") (Some asked.capacity)
+    pub window : ReadsNumber (2 ^ 64) (codes "window") (Some asked.window)
+    pub into : HasText (codes "into") (text_in asked.into)
+    pub replace : IsGiven (codes "replace") asked.replace
+    pub progress : IsGiven (codes "progress") asked.progress
+    pub report : HasText (codes "report") (text_in asked.report)
+    pub index : IsGiven (codes "index") asked.index
+
+  -- The recording that is asked for.
+  pub record AsksRecording (asked : RecordRequest) : Type 0 where
+    pub settings : AsksSettings asked
+    pub preset : Option (Bor (List ℕ))
+    pub preset_is : HasText (codes "preset") (text_in preset)
+    pub tuning : ReadsPreset preset (Some asked.tuning)
+    pub files : texts_of asked.files.items ≡ files_in
+    pub few : length asked.files.items ≤ MOST_FILMS
+
+  -- the recording that is asked for with this tuning and these films
+  abbrev pub AsksToRecord : Tuning → List (Bor (List ℕ)) → Request → Type 0
+  AsksToRecord tuning files (request.Record asked) = AsksSettings asked × (asked.tuning ≡ tuning) × (asked.files.items ≡ files)
+  AsksToRecord tuning files _ = ⊥
+
+  -- the request that the words of the command of this name make
+  abbrev pub Asks : List ℕ → Request → Type 0
+  Asks name (request.List file) = (name ≡ codes "list") × HasText (codes "FILE") (Some file.now)
+  Asks name (request.Code file index) = (name ≡ codes "code") × HasText (codes "FILE") (Some file.now) × HasText (codes "index") (text_in index)
+  Asks name (request.Play file frames workers) =
+      (name ≡ codes "play") × HasText (codes "FILE") (Some file.now) × AsksFrames frames × AsksWorkers workers × IsGiven (codes "salvage") false
+      × HasText (codes "index") None × IfSome frames (λ _. workers ≤ 1)
+  Asks name (request.Salvage file index) =
+      (name ≡ codes "play") × HasText (codes "FILE") (Some file.now) × HasText (codes "index") (text_in index) × IsGiven (codes "salvage") true
+      × HasText (codes "frames") None
+  Asks name (request.Index file sums) = (name ≡ codes "index") × HasText (codes "FILE") (Some file.now) × IsGiven (codes "no-sums") (not sums)
+  Asks name (request.Check file index workers) =
+      (name ≡ codes "check") × HasText (codes "FILE") (Some file.now) × HasText (codes "index") (text_in index) × AsksWorkers workers
+      × IfNone index (workers ≤ 1)
+  Asks name (request.Verify film recording workers) =
+      (name ≡ codes "verify") × HasText (codes "FILM") (Some film.now) × HasText (codes "FILE") (Some recording.now)
+      × ReadsNumber (2 ^ 8) (codes "workers") (Some workers)
+  Asks name (request.Record asked) = (name ≡ codes "record") × AsksRecording asked
+  Asks name (request.Replay sources capacity file) =
+      (name ≡ codes "replay") × HasText (codes "FILE") (Some file.now) × ReadsNumber (2 ^ 8) (codes "sources") (Some sources)
+      × ReadsNumber (2 ^ 32) (codes "capacity") (Some capacity)
+
+-- The words of a command were matched as these, and they make this request; and whether `--reasons` is given.
+pub record MakesRequest (matches : ArgMatches) (request : Request) (reasons : Bool) : Type 0 where
+  pub name : List ℕ
+  pub words : ArgMatches
+  pub command : subcommand_name_of matches ≡ Some name
+  pub of_command : option_map (λ p. p.1) (subcommand_rows_of matches) ≡ Some (rows_of (found_of words))
+  pub asks : Asks words name request
+  pub given : IsGiven words (codes "reasons") reasons
+
+-- what `clap` makes of words, by its own contract
+abbrev pub AreMatched : List (List ℕ) → ArgMatches → Type 0
+AreMatched words matches = (app : App) × HasMatchesOf app words matches
+
+-- These words make this request: `clap` matched them, and what it matched makes it.
+abbrev pub WordsMakeRequest : List (List ℕ) → Request → Bool → Type 0
+WordsMakeRequest words request reasons = (matches : ArgMatches) × AreMatched words matches × MakesRequest matches request reasons

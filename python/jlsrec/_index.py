@@ -1,0 +1,198 @@
+"""Indexes of recordings: text with a line for each codestream, as `jlsrec index` writes it (docs/FORMATS.md, "Indexes")."""
+
+from __future__ import annotations
+
+import hashlib
+import re
+from typing import NamedTuple, Optional
+
+from . import _library
+from ._files import Name, Reading
+from ._library import JlsrecError
+
+_NUMBER = rb"(0|[1-9][0-9]{0,18})"
+_FORM = rb"((?:gray|color)(?: (?:0|[1-9][0-9]{0,4})){8})"
+_LINE = re.compile(rb"%b %b %b %b(?: ([0-9a-f]{64}))?" % (_NUMBER, _NUMBER, _NUMBER, _FORM))
+# What a line that isn't complete consists of.
+_BEGUN = re.compile(rb"[0-9a-z ]{0,255}")
+
+# How much of an index is read at a time; a line has fewer bytes than a quarter of it.
+_BLOCK = 1 << 14
+
+# The markers of T.87 Annex C that stand before the data of the first scan, and what fills up before a marker.
+_SOF55, _SOS, _FILL = 0xF7, 0xDA, 0xFF
+
+
+class WrongIndex(JlsrecError):
+    """An index that isn't of the recording it was named for, or isn't an index. Its text says which line, and why.
+
+    line: the line's number, from 0, which is that of its frame. path: the index's name. status is 0.
+    """
+
+    def __init__(self, path: str, line: int, text: str) -> None:
+        ValueError.__init__(self, f"line {line} of {path}: {text}")
+        self.path, self.line = path, line
+        self.fault = _library.Fault()
+        self.status = self.component = self.marker = self.number = 0
+
+    def of_frame(self, number: int) -> WrongIndex:
+        """The same error, whose text begins with the frame's number."""
+        self.args = (f"frame {number}: {self}",)
+        return self
+
+
+class Line(NamedTuple):
+    """A line of an index: where a codestream begins and ends, its form as the line has it, and the sum of its bytes."""
+
+    path: str
+    number: int
+    start: int
+    end: int
+    form: bytes
+    sum: Optional[bytes]
+
+    def wrong(self, text: str) -> WrongIndex:
+        """The error of this line."""
+        return WrongIndex(self.path, self.number, text).of_frame(self.number)
+
+    def check_form(self, form: _library.Form, data: bytes) -> None:
+        """Raises WrongIndex if the headers at the front of data, which say this form, aren't the line's."""
+        found = columns_of(form, data)
+        if found != self.form:
+            raise self.wrong(f"the codestream there is {found.decode()}, and not {self.form.decode()}")
+
+    def check_sum(self, data: bytes) -> None:
+        """Raises WrongIndex if the line has a sum, and it isn't that of data."""
+        if self.sum is not None and hashlib.sha256(data).hexdigest().encode() != self.sum:
+            raise self.wrong(f"other bytes are there: {self.end - self.start} bytes at {self.start}")
+
+
+class _Page(NamedTuple):
+    """Lines of an index that follow one another, and the number of the first."""
+
+    first: int
+    lines: list[bytes]
+
+
+class Index:
+    """The lines of an index, as many as were complete when it was opened or looked at anew.
+
+    A line is found by its number, which each begins with, so that neither opening nor a line takes longer for a longer
+    index. Each line that is asked for is checked: its form, its number, and that it begins where the line before ends.
+    """
+
+    def __init__(self, path: Name) -> None:
+        """Opens an index. Raises OSError if it can't be opened, WrongIndex if it doesn't end as one."""
+        self._file = Reading(path)
+        self.path = self._file.path
+        # How many lines there are, where the codestream of the last one ends, and where the line itself does.
+        self.count = self.end = self._size = 0
+        self._page = _Page(0, [])
+        # The line that was asked for last, and where its codestream ends.
+        self._last = -1, 0
+        self._has_sums = False
+        self._look()
+
+    def refresh(self) -> None:
+        """Looks for lines that were added. Raises RecordingChanged if the file isn't as it was, but for these."""
+        self._file.refresh()
+        self._look()
+
+    def _look(self) -> None:
+        """Finds the last complete line."""
+        size = self._file.size
+        data = self._file.read(max(self._size, size - _BLOCK), size)
+        stop = data.rfind(b"\n") + 1
+        if not _BEGUN.fullmatch(data, stop):
+            raise self._wrong(self._number_at(size - len(data) + stop))
+        if stop == 0:
+            return
+        begin = data.rfind(b"\n", 0, stop - 1) + 1
+        found = _LINE.fullmatch(data, begin, stop - 1)
+        if found is None or int(found[1]) < self.count or int(found[2]) < self.end:
+            raise self._wrong(self._number_at(size - len(data) + begin))
+        self.count, self.end = int(found[1]) + 1, int(found[2]) + int(found[3])
+        self._size, self._has_sums = size - len(data) + stop, found[5] is not None
+
+    def _number_at(self, place: int) -> int:
+        """How many lines end before a place."""
+        blocks = range(0, place, 1 << 20)
+        return sum(self._file.read(each, min(each + (1 << 20), place)).count(b"\n") for each in blocks)
+
+    def _wrong(self, line: int) -> WrongIndex:
+        return WrongIndex(self.path, line, "not of an index")
+
+    def line(self, number: int) -> Line:
+        """The line of this number, below count. Raises WrongIndex if it isn't one, or doesn't follow the line before."""
+        try:
+            _, start, size, form, digest = self._fields(number)
+            before, after = self._last if number > 0 else (-1, 0)
+            if before != number - 1:
+                _, first, length, *_ = self._fields(number - 1)
+                after = int(first) + int(length)
+        except WrongIndex as error:
+            raise error.of_frame(number) from None
+        line = Line(self.path, number, int(start), int(start) + int(size), form, digest)
+        if line.start != after or line.start == line.end:
+            raise line.wrong(f"it says {line.end - line.start} bytes at {line.start}, and the line before ends at {after}")
+        self._last = number, line.end
+        return line
+
+    def _fields(self, number: int) -> tuple[bytes, ...]:
+        first, lines = self._page
+        if not 0 <= number - first < len(lines):
+            first, lines = self._page = self._page_of(number)
+        found = _LINE.fullmatch(lines[number - first])
+        if found is None or int(found[1]) != number or (found[5] is not None) != self._has_sums:
+            raise self._wrong(number)
+        return found.groups()
+
+    def _page_of(self, number: int) -> _Page:
+        """Lines among which one of this number is, found by where it would be if all lines were equally long."""
+        low, first, high, after = 0, 0, self._size, self.count
+        while low < high and first <= number < after:
+            start = max(low, low + (high - low) * (number - first) // (after - first) - _BLOCK // 2)
+            data = self._file.read(start, min(start + _BLOCK, self._size))
+            begin = 0 if start == low else data.find(b"\n") + 1
+            lines = data[begin:].split(b"\n")[:-1]
+            head = re.match(_NUMBER + b" ", lines[0]) if lines else None
+            if head is None:
+                break
+            page = _Page(int(head[1]), lines)
+            if page.first <= number < page.first + len(lines):
+                return page
+            if number >= page.first:
+                low, first = start + data.rfind(b"\n") + 1, page.first + len(lines)
+            elif start + begin < high:
+                high, after = start + begin, page.first
+            else:
+                break
+        raise self._wrong(number)
+
+
+def header_of(data: bytes) -> tuple[int, int]:
+    """P of a codestream whose headers are without fault, and where the data of its first scan begins."""
+    precision, place = 0, 2
+    while True:
+        marker = data[place + 1]
+        if marker == _FILL:
+            place += 1
+            continue
+        if marker == _SOF55:
+            precision = data[place + 4]
+        place += 2 + int.from_bytes(data[place + 2 : place + 4], "big")
+        if marker == _SOS:
+            return precision, place
+
+
+def columns_of(form: _library.Form, data: bytes) -> bytes:
+    """A codestream's form as its line of an index has it: gray or color, width, height, maxval, P, T1, T2, T3, RESET."""
+    kind = b"gray" if form.components == 1 else b"color"
+    numbers = (form.width, form.height, form.maxval, header_of(data)[0], form.t1, form.t2, form.t3, form.reset)
+    return b"%b %d %d %d %d %d %d %d %d" % (kind, *numbers)
+
+
+def line_of(number: int, start: int, form: _library.Form, data: bytes) -> bytes:
+    """The line of a codestream, with LF at its end."""
+    digest = hashlib.sha256(data).hexdigest().encode()
+    return b"%d %d %d %b %b\n" % (number, start, len(data), columns_of(form, data), digest)
