@@ -2,4 +2,3 @@
 pub mod Account
 pub mod Cores
 pub mod Running
-pub mod Waiting

@@ -3,7 +3,6 @@ ghost use Rattle.std.specs.Prelude.{◌≡◌, MatchResult};
 ghost use Rattle.crossbeam_channel.specs.Claims.{view, IsSeatAt};
 ghost use Rattle.crossbeam_channel.specs.Ends.{receives_on};
 ghost use Rattle.crossbeam_channel.specs.Fifo.{Pops, Learns, Held};
-ghost use Rattle.ls_queue.specs.View.Waiting.{most_looks, looks_after_service, looks_after_sleep};
 
 use crossbeam_channel::protocol::{Lesson, Outcome, Protocol};
 use crossbeam_channel::{Pass, RecvError, RuledReceiver, TryRecvError};
@@ -30,23 +29,17 @@ pub struct Patience {
 
 impl Patience {
     /// Returns the patience of a thread that hasn't waited yet: the most polls.
-    pub fn new() -> Patience
-        ensures { result.looks ≡ most_looks }
-    {
+    pub fn new() -> Patience {
         Patience { looks: MOST_LOOKS }
     }
 
     /// Doubles the number of polls, up to the most, after polling has found a message.
-    fn grow(&mut self)
-        ensures { self.new.looks ≡ looks_after_service self.old.looks }
-    {
+    fn grow(&mut self) {
         self.looks = self.looks.saturating_mul(2).min(MOST_LOOKS);
     }
 
     /// Halves the number of polls, down to the fewest, after polling has found none.
-    fn shrink(&mut self)
-        ensures { self.new.looks ≡ looks_after_sleep self.old.looks }
-    {
+    fn shrink(&mut self) {
         self.looks = (self.looks / 2).max(FEWEST_LOOKS);
     }
 }
