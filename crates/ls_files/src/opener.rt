@@ -1,6 +1,7 @@
 //! Opens files in any thread.
 ghost use Rattle.std.specs.Prelude.{ℕ, List, Option, IfOk};
 
+use crate::stop::Stop;
 use std::alloc::{AllocError, Global};
 use std::fs::{File, Files, Metadata, OpenFile, OpenOptions, TryLockError};
 use std::io::{Read, Write};
@@ -20,6 +21,9 @@ pub trait Opens {
     fn open(&self, path: &str) -> io::Result<Self::File>
         ensures { IfOk result (λ file. holds self.now path.now (Self.File.remaining file)) };
 
+    /// Opens a named pipe for reading and writing, which never waits. While it is open, the pipe has a writer.
+    fn open_kept(&self, path: &str) -> io::Result<Self::File>;
+
     /// Opens an existing file to write to it.
     fn open_to_write(&self, path: &str) -> io::Result<Self::File>;
 
@@ -28,6 +32,9 @@ pub trait Opens {
 
     /// Whether the program was asked to stop: then no film is read any further.
     fn is_stopping(&self) -> bool;
+
+    /// Asks the program to stop, as a signal does.
+    fn stop(&self);
 
     /// Opens a named pipe for reading and writing, which never waits, and closes it again: so whoever waits for its
     /// other side goes on. Does nothing with any other file. A failure is ignored.
@@ -76,8 +83,8 @@ impl Locks for File {
 /// Opens the files of a runtime.
 pub struct Opener<'a, R> {
     rt: &'a R,
-    /// The file that has a byte once the program was asked to stop, if there is one.
-    stop: Option<&'a str>,
+    /// How the program is asked to stop, if it can be.
+    stop: Option<&'a Stop<'a>>,
 }
 
 impl<'a, R> Opener<'a, R> {
@@ -86,9 +93,12 @@ impl<'a, R> Opener<'a, R> {
         Opener { rt, stop: None }
     }
 
-    /// The same for a program that is asked to stop by a byte in the file at `stop`.
-    pub fn stopped_by(self, stop: Option<&'a str>) -> Opener<'a, R> {
-        Opener { rt: self.rt, stop }
+    /// The same for a program that can be asked to stop.
+    pub fn stopped_by(self, stop: &'a Stop<'a>) -> Opener<'a, R> {
+        Opener {
+            rt: self.rt,
+            stop: Some(stop),
+        }
     }
 }
 
@@ -109,6 +119,13 @@ impl<'a, R: Files + Eprint> Opens for Opener<'a, R> {
         File::open(self.rt, path)
     }
 
+    fn open_kept(&self, path: &str) -> io::Result<R::File> {
+        OpenOptions::new()
+            .read(true)
+            .write(true)
+            .open(self.rt, path)
+    }
+
     fn open_to_write(&self, path: &str) -> io::Result<R::File> {
         OpenOptions::new().write(true).open(self.rt, path)
     }
@@ -119,17 +136,20 @@ impl<'a, R: Files + Eprint> Opens for Opener<'a, R> {
 
     fn is_stopping(&self) -> bool {
         match self.stop {
-            Some(stop) => fs::metadata(self.rt, stop).is_ok_and(|file| file.len() > 0),
+            Some(stop) => stop.is_asked(self.rt),
             None => false,
+        }
+    }
+
+    fn stop(&self) {
+        if let Some(stop) = self.stop {
+            stop.ask(self.rt);
         }
     }
 
     fn wake(&self, path: &str) {
         if fs::metadata(self.rt, path).is_ok_and(|file| file.file_type().is_fifo()) {
-            let _pipe = OpenOptions::new()
-                .read(true)
-                .write(true)
-                .open(self.rt, path);
+            let _pipe = self.open_kept(path);
         }
     }
 }

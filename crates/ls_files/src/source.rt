@@ -14,7 +14,8 @@ use std::{fs, io};
 const PERMISSION_DENIED: i32 = 13;
 
 /// A film or a recording to read. A named pipe made by `of` is opened at the first read, which waits until something
-/// writes to it: so only its reader waits. Any other file is already open.
+/// writes to it: so only its reader waits. Any other file is already open. A pipe that is kept open doesn't end when
+/// nothing writes to it any more.
 ///
 /// A read that a signal interrupts is tried again. Once the program was asked to stop, reads fail with `Interrupted`, and
 /// nothing else does.
@@ -26,6 +27,8 @@ pub struct Source<'a, O: Opens> {
     identity: Option<Identity>,
     /// A line for standard error once a pipe is open.
     notice: Option<&'a str>,
+    /// Whether it is opened for writing too if it is a pipe that isn't open yet.
+    is_kept: bool,
     /// Whether a read was refused since the program was asked to stop.
     is_stopped: bool,
     /// The first bytes that were read.
@@ -80,6 +83,7 @@ impl<'a, O: Opens> Source<'a, O> {
             file,
             identity,
             notice: None,
+            is_kept: false,
             is_stopped: false,
             front: Front::new(),
         }
@@ -111,6 +115,13 @@ impl<'a, O: Opens> Source<'a, O> {
         self.notice = Some(notice);
     }
 
+    /// Keeps an awaited pipe open once it is open, although nothing writes to it: it then ends only by a stop.
+    pub fn keep_open(&mut self)
+        ensures { self.new.file ≡ self.old.file }
+    {
+        self.is_kept = true;
+    }
+
     /// The file's identity, if the system gives it.
     pub fn identity(&self) -> Option<Identity> {
         self.identity
@@ -125,7 +136,12 @@ impl<'a, O: Opens> Source<'a, O> {
         ensures kept { (file : O.File) → self.old.file ≡ Some file → self.new.file ≡ Some file }
     {
         if self.file.is_none() {
-            self.file = Some(self.opener.open(self.path)?);
+            let file = if self.is_kept {
+                self.opener.open_kept(self.path)?
+            } else {
+                self.opener.open(self.path)?
+            };
+            self.file = Some(file);
             match self.notice {
                 Some(notice) if !self.opener.is_stopping() => self.opener.say(notice),
                 _ => {}
