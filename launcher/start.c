@@ -1,24 +1,21 @@
 /* What the program does before its `main`, for the command `record` alone: it has signals stop a recording.
 
    The environment's JLSREC_STOP is then the path of an empty file in memory, at which the program looks before each read
-   of a film. At the first INT, TERM or HUP a byte is written into it. From then on each thread is interrupted every 10 ms,
-   so that a read that waits fails by EINTR. After a tenth of a second the signals do what they usually do again: a second
-   one ends the program. One that comes sooner is taken for the same stop, since `timeout`, shells and service managers
-   send two at once. A signal that was ignored stays so. If any of this can't be had, no signal is taken. And COLUMNS is
-   set to the width of the terminal at standard error, unless it is set.
-
-   The kit's compiler has no headers, so what is used of the C library and of Linux on x86-64 is declared here. */
-enum { IGNORED = 1, MFD_CLOEXEC = 1, SIG_UNBLOCK = 1, CLOCK_MONOTONIC = 1, READ_OK = 4, AT_FDCWD = -100 };
+   of a film. At the first INT, TERM or HUP a byte is written into it. The program may write one, too: that is seen within
+   a tenth of a second. Then each thread is interrupted every 10 ms, so that a read that waits fails by EINTR. After a
+   tenth of a second the signals do what they usually do again: a second one ends the program. One that comes sooner is
+   taken for the same stop, since `timeout`, shells and service managers send two at once. A signal that was ignored stays
+   so. If any of this can't be had, no signal is taken. And COLUMNS is set to the terminal's width at standard error,
+   unless it is set. The kit's compiler has no headers, so what is used of the C library and of Linux is declared here. */
+enum { IGNORED = 1, MFD_CLOEXEC = 1, SIG_UNBLOCK = 1, CLOCK_MONOTONIC = 1, SEEK_END = 2, READ_OK = 4, AT_FDCWD = -100 };
 enum { F_DUPFD_CLOEXEC = 1030, TIOCGWINSZ = 0x5413, FOLDER_TO_READ = 02200000, TICKS = 10 };
 enum { SIGHUP = 1, SIGINT = 2, SIGTERM = 15, SIGURG = 23, SIGRTMAX = 64 };
-enum { SYS_write = 1, SYS_close = 3, SYS_rt_sigprocmask = 14, SYS_ioctl = 16, SYS_access = 21, SYS_getpid = 39,
-	SYS_fcntl = 72, SYS_gettid = 186, SYS_getdents64 = 217, SYS_timer_create = 222, SYS_timer_settime = 223, SYS_tgkill = 234,
-	SYS_openat = 257, SYS_memfd_create = 319 };
-#define BIT(signal) (1UL << ((signal) - 1))
+enum { SYS_write = 1, SYS_close = 3, SYS_lseek = 8, SYS_rt_sigprocmask = 14, SYS_ioctl = 16, SYS_access = 21,
+	SYS_getpid = 39, SYS_fcntl = 72, SYS_gettid = 186, SYS_getdents64 = 217, SYS_timer_create = 222, SYS_timer_settime = 223,
+	SYS_tgkill = 234, SYS_openat = 257, SYS_memfd_create = 319 };
 
 struct sigaction { void (*handler)(int); unsigned long mask[16]; int flags; void (*restorer)(void); };
-struct sigevent { void *value; int signal, how, unused[12]; };
-struct itimerspec { long interval[2], value[2]; };
+struct sigevent { void *value; int signal, how, unused[12]; }; struct period { long interval[2], first[2]; };
 struct dirent { unsigned long inode, place; unsigned short length; unsigned char kind; char name[]; };
 
 long syscall(long, ...);
@@ -26,7 +23,7 @@ int sigaction(int, const struct sigaction *, struct sigaction *), *__errno_locat
 int setenv(const char *, const char *, int), unsetenv(const char *), strcmp(const char *, const char *), atoi(const char *);
 int snprintf(char *, unsigned long, const char *, ...);
 
-static const struct itimerspec every_10_ms = { { 0, 10000000 }, { 0, 10000000 } };
+static const struct period every_100_ms = { { 0, 100000000 }, { 0, 1 } }, every_10_ms = { { 0, 10000000 }, { 0, 1 } };
 static const int stops[] = { SIGHUP, SIGINT, SIGTERM };
 static int is_taken[3], is_stopped, ticks, file, timer;
 
@@ -45,14 +42,16 @@ static void stop(int signal)
 
 static void interrupt(int signal) { (void)signal; }
 
-/* Interrupts each thread: its own, by being called. */
+/* Once the program is to stop, interrupts each thread: its own, by being called. */
 static void tick(int signal)
 {
 	_Alignas(struct dirent) char list[2048];
 	int error = *__errno_location();
 	long folder, size, at, thread, process = syscall(SYS_getpid), own = syscall(SYS_gettid);
 
-	folder = syscall(SYS_openat, AT_FDCWD, "/proc/self/task", FOLDER_TO_READ, 0L);
+	if (!is_stopped && syscall(SYS_lseek, file, 0L, SEEK_END) > 0)
+		stop(signal);
+	folder = is_stopped ? syscall(SYS_openat, AT_FDCWD, "/proc/self/task", FOLDER_TO_READ, 0L) : -1;
 	while (folder >= 0 && (size = syscall(SYS_getdents64, folder, list, sizeof list)) > 0)
 		for (at = 0; at < size; at += ((struct dirent *)(list + at))->length) {
 			thread = atoi(((struct dirent *)(list + at))->name);
@@ -60,7 +59,7 @@ static void tick(int signal)
 				syscall(SYS_tgkill, process, thread, SIGURG);
 		}
 	syscall(SYS_close, folder);
-	if (signal && ++ticks == TICKS)
+	if (is_stopped && ++ticks == TICKS)
 		for (at = 0; at < 3; at++)
 			if (is_taken[at])
 				sigaction(stops[at], &(struct sigaction){ 0 }, 0);
@@ -69,9 +68,9 @@ static void tick(int signal)
 
 __attribute__((constructor)) static void start(int count, char **words)
 {
-	struct sigaction was, action = { .mask = { BIT(SIGHUP) | BIT(SIGINT) | BIT(SIGTERM) | BIT(SIGURG) | BIT(SIGRTMAX) } };
+	struct sigaction was, action = { .mask = { -1UL } };
 	struct sigevent event = { .signal = SIGRTMAX };
-	long made, unblocked = BIT(SIGURG) | BIT(SIGRTMAX);
+	long made, unblocked = 1L << (SIGURG - 1) | 1L << (SIGRTMAX - 1);
 	unsigned short window[4];
 	char text[64];
 
@@ -93,6 +92,7 @@ __attribute__((constructor)) static void start(int count, char **words)
 	sigaction(SIGURG, &action, 0);
 	action.handler = tick;
 	sigaction(SIGRTMAX, &action, 0);
+	syscall(SYS_timer_settime, timer, 0, &every_100_ms, 0L);
 	action.handler = stop;
 	for (int at = 0; at < 3; at++)
 		if (sigaction(stops[at], 0, &was) == 0 && was.handler != (void (*)(int))IGNORED)

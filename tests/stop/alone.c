@@ -1,6 +1,7 @@
 /* Is linked with launcher/start.c and tells what that leaves. With `record` it has two threads read standard input, where
    nothing comes, until each was interrupted and the file of JLSREC_STOP has a byte, and then sleeps: it is to be ended by
-   a signal. */
+   a signal. With `record itself` it writes that byte itself. */
+#include <fcntl.h>
 #include <errno.h>
 #include <pthread.h>
 #include <stdio.h>
@@ -38,6 +39,8 @@ int main(int count, char **words)
 		return 0;
 	printf("%s\n", is_stopped() ? "stopped at once" : "not stopped");
 	fflush(stdout);
+	if (count > 2 && strcmp(words[2], "itself") == 0 && write(open(path, O_WRONLY), "s", 1) != 1)
+		abort();
 	if (pthread_create(&other, NULL, read_on, NULL) != 0)
 		abort();
 	read_on(NULL);

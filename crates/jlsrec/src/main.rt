@@ -11,7 +11,7 @@ mod streams;
 mod words;
 
 use ls_console::{COLUMNS, Console};
-use ls_files::{Opener, Patient};
+use ls_files::{Opener, Patient, Stop};
 use ls_frame::Counted;
 use program::start;
 use std::env;
@@ -26,7 +26,7 @@ const LEAST_WIDTH: usize = 20;
 const MOST_WIDTH: usize = 1000;
 
 /// The environment's variable with the path of the file that has a byte once `record` is to stop. What is linked with
-/// the program sets it, before `main`; without it only the system's end of a program ends a recording early.
+/// the program sets it, before `main`; without it no signal stops a recording but by ending the program.
 const STOP: &str = "JLSREC_STOP";
 
 fn main(rt: HostRuntime) -> ExitCode {
@@ -36,8 +36,9 @@ fn main(rt: HostRuntime) -> ExitCode {
     let is_terminal = rt.stderr().is_terminal();
     let errors = Counted::new(Patient::new(rt.stderr()));
     let mut console = Console::new(rt.alloc(), errors, is_terminal, columns(&rt));
-    let stop = env::var(&rt, STOP).ok();
-    let opener = Opener::new(&rt).stopped_by(stop.as_deref());
+    let asked = env::var(&rt, STOP).ok();
+    let stop = Stop::new(asked.as_deref());
+    let opener = Opener::new(&rt).stopped_by(&stop);
     ExitCode::from(start(&rt, opener, &mut output, &mut console))
 }
 

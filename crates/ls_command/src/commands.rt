@@ -1,12 +1,12 @@
 //! The table of commands and options, and how `clap` is given them.
-use crate::limits::{CAPACITY, QUEUE, SOURCES, WINDOW, WORKERS};
+use crate::limits::{CAPACITY, COUNT, QUEUE, SECONDS, SOURCES, SYNC, WINDOW, WORKERS};
 use crate::texts::{
-    CAPACITY_HELP, CHECK_HELP, CHECKERS_HELP, CODE_HELP, FILM_HELP, FILMS_HELP, FRAMES_HELP,
-    INDEX_FILE_HELP, INDEX_HELP, INDEX_OF_CODE_HELP, INDEX_OF_RECORDING_HELP,
-    INDEX_OF_SALVAGE_HELP, INTO_HELP, LIST_HELP, NO_SUMS_HELP, PLAY_HELP, PLAYERS_HELP,
-    PRESET_HELP, PROGRESS_HELP, QUEUE_HELP, REASONS_HELP, RECORD_HELP, RECORDING_HELP,
-    REPLACE_HELP, REPLAY_HELP, REPORT_HELP, SALVAGE_HELP, SOURCES_HELP, STEPS_HELP, VERIFIERS_HELP,
-    VERIFY_HELP, WINDOW_HELP, WORKERS_HELP,
+    CAPACITY_HELP, CHECK_HELP, CHECKERS_HELP, CODE_HELP, COUNT_HELP, FILM_HELP, FILMS_HELP,
+    FRAMES_HELP, INDEX_FILE_HELP, INDEX_HELP, INDEX_OF_CODE_HELP, INDEX_OF_RECORDING_HELP,
+    INDEX_OF_SALVAGE_HELP, INTO_HELP, KEEP_OPEN_HELP, LIST_HELP, NO_SUMS_HELP, PLAY_HELP,
+    PLAYERS_HELP, PRESET_HELP, PROGRESS_HELP, QUEUE_HELP, REASONS_HELP, RECORD_HELP,
+    RECORDING_HELP, REPLACE_HELP, REPLAY_HELP, REPORT_HELP, SALVAGE_HELP, SECONDS_HELP,
+    SOURCES_HELP, STEPS_HELP, SYNC_HELP, VERIFIERS_HELP, VERIFY_HELP, WINDOW_HELP, WORKERS_HELP,
 };
 use clap::builder::ValueParser;
 use clap::{Arg, ArgAction, Command};
@@ -34,6 +34,8 @@ enum Argument {
     Text(&'static str, &'static str, &'static str),
     /// An option whose value is a number: the least and the greatest, and the default.
     Number(&'static str, (i64, i64), &'static str, &'static str),
+    /// The same without a default, and the value's name in the help.
+    Limit(&'static str, &'static str, (i64, i64), &'static str),
     /// The same, but required.
     RequiredNumber(&'static str, (i64, i64), &'static str),
 }
@@ -57,6 +59,10 @@ const COMMANDS: [Entry; 8] = [
             Argument::Flag("progress", PROGRESS_HELP),
             Argument::Text("report", "REPORT", REPORT_HELP),
             Argument::Flag("index", INDEX_OF_RECORDING_HELP),
+            Argument::Limit("count", "FRAMES", COUNT, COUNT_HELP),
+            Argument::Limit("for", "SECONDS", SECONDS, SECONDS_HELP),
+            Argument::Flag("keep-open", KEEP_OPEN_HELP),
+            Argument::Number("sync", SYNC, "10", SYNC_HELP),
             REASONS,
             Argument::Files("FILE", FILMS_HELP),
         ],
@@ -187,10 +193,11 @@ fn argument_of<'a>(alloc: Global, argument: Argument) -> Arg<'a> {
         Argument::Flag(name, help) => flag(alloc, name, help),
         Argument::Text(name, value, help) => option(alloc, name, value, help),
         Argument::Number(name, range, usual, help) => {
-            number(alloc, name, range, help).default_value(usual)
+            number(alloc, name, "N", range, help).default_value(usual)
         }
+        Argument::Limit(name, value, range, help) => number(alloc, name, value, range, help),
         Argument::RequiredNumber(name, range, help) => {
-            number(alloc, name, range, help).required(true)
+            number(alloc, name, "N", range, help).required(true)
         }
     }
 }
@@ -216,8 +223,14 @@ fn option<'a>(alloc: Global, name: &'a str, value: &'a str, help: &'a str) -> Ar
         .help(help)
 }
 
-/// An option whose value is a number in `range`, both ends included.
-fn number<'a>(alloc: Global, name: &'a str, range: (i64, i64), help: &'a str) -> Arg<'a> {
+/// An option whose value is a number in `range`, both ends included, and is called `value` in the help.
+fn number<'a>(
+    alloc: Global,
+    name: &'a str,
+    value: &'a str,
+    range: (i64, i64),
+    help: &'a str,
+) -> Arg<'a> {
     let (least, most) = range;
-    option(alloc, name, "N", help).value_parser(ValueParser::signed(least, most))
+    option(alloc, name, value, help).value_parser(ValueParser::signed(least, most))
 }

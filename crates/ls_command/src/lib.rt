@@ -116,6 +116,14 @@ pub struct RecordRequest<'a> {
     pub report: Option<&'a str>,
     /// Whether each recording gets an index.
     pub index: bool,
+    /// The most seconds until what is recorded is on the disk; 0 if that is to be at the end alone.
+    pub sync: usize,
+    /// Whether pipes are kept open when nothing writes to them.
+    pub keep_open: bool,
+    /// The number of frames after which each film is read no further.
+    pub count: Option<u64>,
+    /// The seconds after which no film is read any further.
+    pub seconds: Option<usize>,
     /// The films, 1 to `MOST_FILMS`.
     pub files: Vec<&'a str>,
 }
@@ -428,6 +436,10 @@ fn recording_of<'a>(
         progress: words.get_flag("progress"),
         report: words.get_str("report"),
         index: words.get_flag("index"),
+        sync: size_of(words, "sync")?,
+        keep_open: words.get_flag("keep-open"),
+        count: count_of(words),
+        seconds: size_of(words, "for"),
         files,
     }))
 }
@@ -437,6 +449,13 @@ fn size_of(words: &ArgMatches<'_>, name: &str) -> Option<usize>
     ensures { ReadsNumber words.now (2 ^ 64) name.now result }
 {
     words.get_one(name)
+}
+
+/// The number of frames of `--count`, from the matched words.
+fn count_of(words: &ArgMatches<'_>) -> Option<u64>
+    ensures { ReadsNumber words.now (2 ^ 64) (codes "count") result }
+{
+    words.get_one("count")
 }
 
 /// The request of `replay`, from its matched words.

@@ -205,6 +205,20 @@ pub const REPORT_HELP: &str = "\
 The file for a report, created before anything is recorded and written at the end: for each film its frames, bytes,
 speed and longest delay, and how busy the workers were";
 
+pub const COUNT_HELP: &str = "\
+The number of frames, 1 or more, after which a film is read no further, also if it goes on";
+
+pub const SECONDS_HELP: &str = "\
+The seconds, 1 or more, after which all films end as by a signal: each frame that was read whole is recorded";
+
+pub const KEEP_OPEN_HELP: &str = "\
+Keep each named pipe open when nothing writes to it, so that programs may come and go, each with whole frames;
+its recording then ends by a signal, by --for or by --count";
+
+pub const SYNC_HELP: &str = "\
+The most seconds, 0 to 86400, until a recorded frame is on the disk, where a loss of power can't take it;
+with 0 that is so only once its film has ended";
+
 pub const REASONS_HELP: &str = "\
 Also report on standard error the system's reason for a fault, and what a file of another kind seems to be;
 on a terminal this is always reported";

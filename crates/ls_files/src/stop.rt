@@ -7,19 +7,18 @@ use std::sync::atomic::{AtomicBool, Ordering};
 /// How the program is asked to stop: by a signal, or by itself.
 #[derive(Drop)]
 pub struct Stop<'a> {
-    /// The file that has a byte once a signal asked for it, if there is one.
+    /// The file that has a byte once the program was asked to stop, if there is one. What writes a byte into it for a
+    /// signal also interrupts the program's threads from then on, whoever wrote the byte.
     asked: Option<&'a str>,
-    /// The pipe into which a byte is written so that each thread is interrupted as after a signal, if there is one.
-    bell: Option<&'a str>,
+    /// Whether the program has asked itself.
     is_asked: AtomicBool,
 }
 
 impl<'a> Stop<'a> {
     /// A stop that nothing has asked for yet.
-    pub fn new(asked: Option<&'a str>, bell: Option<&'a str>) -> Stop<'a> {
+    pub fn new(asked: Option<&'a str>) -> Stop<'a> {
         Stop {
             asked,
-            bell,
             is_asked: AtomicBool::new(false),
         }
     }
@@ -35,14 +34,12 @@ impl<'a> Stop<'a> {
         }
     }
 
-    /// Asks the program to stop. Without a bell a read that waits goes on waiting.
+    /// Asks the program to stop. Without a file a read that waits goes on waiting.
     pub fn ask<R: Files>(&self, rt: &R) {
-        if self.is_asked.swap(true, Ordering::SeqCst) {
-            return;
-        }
-        if let Some(bell) = self.bell {
-            if let Ok(mut bell) = OpenOptions::new().write(true).open(rt, bell) {
-                let _refused = bell.write_all(b"s");
+        self.is_asked.store(true, Ordering::SeqCst);
+        if let Some(asked) = self.asked {
+            if let Ok(mut asked) = OpenOptions::new().write(true).open(rt, asked) {
+                let _refused = asked.write_all(b"s");
             }
         }
     }

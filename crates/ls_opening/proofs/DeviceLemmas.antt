@@ -4,11 +4,10 @@ use Rattle.std.specs.Prelude.{None}
 use Rattle.ls_files.specs.declared.source.Source.{Source}
 use Rattle.ls_files.specs.View.Opened.{known_of}
 use Rattle.ls_files.specs.View.Files.{ReadsFileAt, left_in_source}
-use Rattle.ls_console.specs.View.Readers.{unread}
-use Rattle.ls_opening.specs.View.Devices.{FilmReader}
+use Rattle.ls_opening.specs.View.Devices.{FilmReader, left_of}
 
 pub reads-film : {O F : Type 0} (holds : O → List ℕ → Option (List ℕ) → Type 0) (remaining : F → Option (List ℕ)) (opener : O) (path : List ℕ) (source : Source O F) (reader : FilmReader O F)
-    → ReadsFileAt holds remaining opener path source → unread remaining reader ≡ left_in_source remaining source
-    → (unread remaining reader ≡ None) ⊎ holds opener path (unread remaining reader)
+    → ReadsFileAt holds remaining opener path source → left_of remaining reader ≡ left_in_source remaining source
+    → (left_of remaining reader ≡ None) ⊎ holds opener path (left_of remaining reader)
 reads-film holds remaining opener path source reader reads same =
     elim reads [ inl none ↦ inl (same ∙ ap (known_of remaining) none) | inr told ↦ inr (subst (holds opener path) (sym same) told) ]

@@ -18,8 +18,11 @@ pub struct Film<'a, O: Makes> {
     keeper: Keeper<O>,
     /// Whether the recording and its index are on the disk, once the film has ended.
     synced: Option<Synced>,
-    /// The failure to sync the recording while it went on. (The system says so only once.)
+    /// The failures to sync the recording and its index while it went on. (The system says so only once.)
     unsynced: Option<Failed>,
+    unsynced_index: Option<Failed>,
+    /// The number of frames that were on the disk while it went on.
+    synced_frames: u64,
     /// The number of frames, once the film has ended and if its recording is whole.
     pub frames: Option<u64>,
     /// Whether the film was read no further since the program was asked to stop, once it has ended.
@@ -56,6 +59,8 @@ impl<'a, O: Makes + Copy + Drop> Film<'a, O> {
                 keeper,
                 synced: None,
                 unsynced: None,
+                unsynced_index: None,
+                synced_frames: 0,
                 frames: None,
                 is_stopped: false,
                 is_index_broken: false,
@@ -100,6 +105,20 @@ impl<'a, O: Makes + Copy + Drop> Film<'a, O> {
         }
     }
 
+    /// Brings what is written of the recording onto the disk while it goes on, and of its index no more than that.
+    pub fn sync_so_far(&mut self, written: u64) {
+        if written == self.synced_frames || self.unsynced.is_some() {
+            return;
+        }
+        self.synced_frames = written;
+        if let Err(failure) = self.sync_index() {
+            self.unsynced_index = Some(failure);
+        }
+        if let Err(failure) = self.sync() {
+            self.unsynced = Some(failure);
+        }
+    }
+
     /// Settles the files of a film that has ended, with a fault or without, and with this number of codestreams: syncs
     /// them, and removes earlier files that are to be replaced; or, if it stopped before anything was recorded, removes
     /// the new files and gives earlier ones their names back. Returns whether they are on the disk, as at the first
@@ -113,7 +132,7 @@ impl<'a, O: Makes + Copy + Drop> Film<'a, O> {
                 }
                 let synced = Synced {
                     recording: self.sync(),
-                    index: failed_of(self.keeper.sync_index()),
+                    index: self.sync_index(),
                 };
                 if synced.recording.is_ok() && written > 0 {
                     self.keeper.replace();
@@ -151,6 +170,13 @@ impl<'a, O: Makes + Copy + Drop> Film<'a, O> {
         match self.unsynced {
             Some(failure) => Err(failure),
             None => failed_of(self.keeper.sync()),
+        }
+    }
+
+    fn sync_index(&self) -> Result<(), Failed> {
+        match self.unsynced_index {
+            Some(failure) => Err(failure),
+            None => failed_of(self.keeper.sync_index()),
         }
     }
 }

@@ -8,6 +8,7 @@ ghost use Rattle.ls_opening.specs.View.Devices.{AreDevicesOf, IsWriterFor, targe
 
 use crate::film::Film;
 use crate::found::{Found, has_index, has_index_at, is_met, written_twice};
+use crate::limited::{Limit, Limited};
 use crate::names::Names;
 use crate::refusal::Refusal;
 use ls_archive::{Follower, Indexing};
@@ -25,7 +26,7 @@ use std::time::Duration;
 pub type Writer<'a, O> = Indexing<Counted<Target<'a, O>>, Counted<Target<'a, O>>>;
 
 /// What a film's lane is given: its reader, its writer and its coding parameters.
-pub type Devices<'a, O> = (Reader<'a, O>, Writer<'a, O>, Tuning);
+pub type Devices<'a, O> = (Limited<'a, Reader<'a, O>>, Writer<'a, O>, Tuning);
 
 /// The films, what the lane of each is given, and the file of the report, if there is to be one.
 #[derive(Drop)]
@@ -42,12 +43,14 @@ const TRIES: u32 = 100;
 const PAUSE: u64 = 10;
 
 /// Opens each film but the named pipes. Only then, if no file is a duplicate or is being made by another program,
-/// makes the files of the report and of each recording. The devices are those of the films, in the order of the names.
+/// makes the files of the report and of each recording. The devices are those of the films, in the order of the names,
+/// and so are the limits, if there are any.
 pub fn open_films<'a, R, O, E>(
     rt: &R,
     opener: O,
     asked: &RecordRequest<'a>,
     names: &'a [Names<'a>],
+    limits: &'a [Limit],
     console: &mut Console<E>,
 ) -> Result<Opened<'a, O>, Refusal<'a>>
 where
@@ -61,6 +64,7 @@ where
         opener,
         asked,
         names,
+        limits,
     };
     let sources = opening.open_sources()?;
     let Made {
@@ -76,13 +80,15 @@ where
     })
 }
 
-/// The opening of films: the runtime and its opener, what is asked for, and the films' names.
+/// The opening of films: the runtime and its opener, what is asked for, the films' names, and their limits, if they have
+/// any.
 #[derive(Drop)]
 struct Opening<'o, 'a, R, O> {
     rt: &'o R,
     opener: O,
     asked: &'o RecordRequest<'a>,
     names: &'a [Names<'a>],
+    limits: &'a [Limit],
 }
 
 /// The films and the report, once every lock is taken and before anything is changed.
@@ -255,7 +261,8 @@ where
         let mut devices = Vec::new(alloc);
         for film in self.names {
             let (source, writer) = (sources.remove(0), writers.remove(0));
-            let reader = reader_of(alloc, film, source, console)?;
+            let reader = reader_of(alloc, film, source, self.asked.keep_open, console)?;
+            let reader = Limited::new(reader, self.limits.get(devices.len()));
             devices.push((reader, writer, self.asked.tuning))?;
         }
         Ok(devices)
@@ -330,11 +337,12 @@ fn writer_of<'a, O: Opens + Drop>(alloc: Global, targets: Targets<'a, O>) -> Wri
     Indexing::new(Counted::new(recording), follower)
 }
 
-/// The reader of a film, with a buffer. On a terminal, says if its pipe is waited for.
+/// The reader of a film, with a buffer. If its pipe isn't kept open, says on a terminal that it is waited for.
 fn reader_of<'a, O, E>(
     alloc: Global,
     names: &'a Names<'a>,
     mut source: Source<'a, O>,
+    keep_open: bool,
     console: &mut Console<E>,
 ) -> Result<Reader<'a, O>, Refusal<'a>>
 where
@@ -342,7 +350,9 @@ where
     E: Outlet,
     ensures { IfOk result (λ reader. unread O.File.remaining reader ≡ left_in_source O.File.remaining source.entry) }
 {
-    if source.is_awaited() && console.is_terminal() {
+    if keep_open {
+        source.keep_open();
+    } else if source.is_awaited() && console.is_terminal() {
         source.announce(names.notice.as_str());
         let file = Shown(names.file);
         console.say(format_args!("{file}: waiting for what writes to it"));

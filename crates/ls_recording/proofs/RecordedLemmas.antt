@@ -1,5 +1,5 @@
 -- From what the lanes of films did to what was recorded.
-use Rattle.std.proofs.Common.{◌≡◌, ◌⊎◌, inl, inr, ℕ, Bool, true, false, true≢false, ◌&&◌, List, [], ◌∷◌, ◌++◌, ◌<◌, length, Option, Result, Ok, Err, IfOk, MatchResult, refl, sym, ap, subst, ◌∙◌, append_assoc, append-nil, arith}
+use Rattle.std.proofs.Common.{◌≡◌, ◌⊎◌, inl, inr, ℕ, Bool, true, false, true≢false, ◌&&◌, List, [], ◌∷◌, ◌++◌, ◌<◌, length, Option, Some, Result, Ok, Err, IfOk, MatchResult, refl, sym, ap, subst, ◌∙◌, append_assoc, append-nil, arith}
 use Rattle.std.specs.Prelude.{slice_index_or, remove}
 use Rattle.std.specs.Io.KnownBytes.{Appends}
 use Rattle.std.specs.List.{AllZip}
@@ -7,7 +7,6 @@ use Rattle.ls_frame.specs.declared.netpbm.NetpbmFault.TheVariants.{Io}
 use Rattle.ls_frame.specs.declared.tuning.Tuning.{Tuning}
 use Rattle.ls_files.specs.declared.keeper.Targets.{Targets}
 use Rattle.ls_files.specs.View.Files.{held_by_target}
-use Rattle.ls_console.specs.View.Readers.{unread}
 use Rattle.ls_pieces.specs.Orders.{Ordered}
 use Rattle.ls_recorder.specs.declared.lane.LaneFault.{LaneFault}
 use Rattle.ls_recorder.specs.declared.lane.LaneFault.TheVariants.{Input, NotStarted}
@@ -16,7 +15,7 @@ use Rattle.ls_recorder.specs.declared.recording.Track.{Track}
 use Rattle.ls_recorder.specs.View.Lanes.{Records, StopsLane, RecordsBefore, tuned_file}
 use Rattle.ls_recorder.specs.View.Recordings.{IsTrack}
 use Rattle.ls_recorder.proofs.ListLemmas.{zip-more, zip-through, zip-weaker}
-use Rattle.ls_opening.specs.View.Devices.{FilmReader, FilmWriter, FilmDevices, target_of}
+use Rattle.ls_opening.specs.View.Devices.{FilmReader, FilmWriter, FilmDevices, left_of, target_of}
 use Rattle.ls_recording.specs.View.Films.{IsComplete, HasTrack, IsWhole, IsRecorded, held, was_stopped}
 
 -- a recorder's tracks say what the lanes of their films did
@@ -33,12 +32,12 @@ abbrev fault-of : Result ℕ LaneFault → LaneFault
 fault-of (Ok n) = NotStarted
 fault-of (Err fault) = fault
 
-module _ {O F : Type 0} (remaining contents : F → Option (List ℕ)) where
+module _ {O F : Type 0} (remaining contents : F → Option (List ℕ)) (count : Option ℕ) where
   recorded-so : (film : FilmDevices O F) (files : Targets O F) (reader : FilmReader O F) (writer : FilmWriter O F) (items : List Ordered) (r : Result ℕ LaneFault) (n : ℕ)
       → (r ≡ Err NotStarted) ⊎ MatchResult r
-      (Records film.2 items (unread remaining film.0) (unread remaining reader) (held contents film.1) (held contents writer))
-      (StopsLane film.2 items (unread remaining film.0) (unread remaining reader) (held contents film.1) (held contents writer))
-      → IsComplete r (was_stopped reader) n → files.recording ≡ target_of writer → IsRecorded remaining contents film files
+      (Records film.2 items (left_of remaining film.0) (left_of remaining reader) (held contents film.1) (held contents writer))
+      (StopsLane film.2 items (left_of remaining film.0) (left_of remaining reader) (held contents film.1) (held contents writer))
+      → IsComplete count r (was_stopped reader) n → files.recording ≡ target_of writer → IsRecorded remaining contents count film files
   recorded-so film files reader writer items (Ok k) n (inl none) complete file = let clash : ⊥ = cc in absurd clash
   recorded-so film files reader writer items (Ok k) n (inr run) complete file = record {
     frames = run.run.frames;
@@ -56,20 +55,20 @@ module _ {O F : Type 0} (remaining contents : F → Option (List ℕ)) where
   recorded-so film files reader writer items (Err fault) n (inr stops) (inl ok) file = let clash : ⊥ = cc in absurd clash
   recorded-so film files reader writer items (Err fault) n (inr stops) (inr stopped) file =
       let is : fault ≡ Input n Io = ap fault-of stopped.0 in
-      let before : RecordsBefore film.2 items (unread remaining film.0) (unread remaining reader) (held contents film.1) (held contents writer) n Io =
-      subst (StopsLane film.2 items (unread remaining film.0) (unread remaining reader) (held contents film.1) (held contents writer)) is stops in
+      let before : RecordsBefore film.2 items (left_of remaining film.0) (left_of remaining reader) (held contents film.1) (held contents writer) n Io =
+      subst (StopsLane film.2 items (left_of remaining film.0) (left_of remaining reader) (held contents film.1) (held contents writer)) is stops in
       record {
         frames = before.run.frames;
         few = before.run.few;
         tuned = before.put.1;
         reader = reader;
-        gave = inr (stopped.1, before.run.begins);
+        gave = inr (elim stopped.1 [ inl so ↦ inl so | inr all ↦ inr (all ∙ ap Some (sym before.run.count)) ], before.run.begins);
         wrote = subst (λ t. Appends (held contents film.1) (held_by_target contents t) (tuned_file film.2 before.run.frames)) (sym file) before.run.wrote;
       }
 
   -- the films whose tracks are whole were recorded to their files
   pub all-recorded : (films : List (FilmDevices O F)) (tracks : List (Track (FilmReader O F) (FilmWriter O F))) (files : List (Targets O F))
-      → AllZip (HasTrack (unread remaining) (held contents)) films tracks → AllZip IsWhole tracks files → AllZip (IsRecorded remaining contents) films files
+      → AllZip (HasTrack (left_of remaining) (held contents)) films tracks → AllZip (IsWhole count) tracks files → AllZip (IsRecorded remaining contents count) films files
   all-recorded films tracks files has whole = zip-weaker _ _ films files
       (λ film files both. let track = both.0 in
       recorded-so film files track.reader track.writer both.1.0 track.result both.2.frames both.1.1 both.2.complete both.2.file)
@@ -77,8 +76,8 @@ module _ {O F : Type 0} (remaining contents : F → Option (List ℕ)) where
 
   -- so they were if the recording ended
   pub finished : {X : Type 0} (films : List (FilmDevices O F)) (recorded : Result (Recording (FilmReader O F) (FilmWriter O F)) X) (files : List (Targets O F))
-      → IfOk recorded (λ recording. AllZip (HasTrack (unread remaining) (held contents)) films recording.tracks.items)
-      → MatchResult recorded (λ recording. AllZip IsWhole recording.tracks.items files) (λ _. ⊥) → AllZip (IsRecorded remaining contents) films files
+      → IfOk recorded (λ recording. AllZip (HasTrack (left_of remaining) (held contents)) films recording.tracks.items)
+      → MatchResult recorded (λ recording. AllZip (IsWhole count) recording.tracks.items files) (λ _. ⊥) → AllZip (IsRecorded remaining contents count) films files
   finished films (Ok recording) files has whole = all-recorded films recording.tracks.items files has whole
   finished films (Err fault) files has whole = absurd whole
 

@@ -42,6 +42,7 @@ struct End<'a, O: Opens> {
 pub fn end_films<'a, R, O, E>(
     alloc: Global,
     watch: &Watch<'_, R>,
+    count: Option<u64>,
     films: &mut [Film<'_, O>],
     recorded: Recorded<'a, O>,
     console: &mut Console<E>,
@@ -50,10 +51,10 @@ where
     R: Clock,
     O: Makes + Copy,
     E: Outlet,
-    ensures { result.are_whole ≡ true → MatchResult recorded.entry (λ recording. AllZip IsWhole recording.tracks.items result.files.items) (λ _. ⊥) }
+    ensures { result.are_whole ≡ true → MatchResult recorded.entry (λ recording. AllZip (IsWhole count) recording.tracks.items result.files.items) (λ _. ⊥) }
 {
     match recorded {
-        Ok(recording) => match end_tracks(alloc, watch, films, recording.tracks, console) {
+        Ok(recording) => match end_tracks(alloc, watch, count, films, recording.tracks, console) {
             Ok(ends) => ends,
             Err(AllocError) => {
                 no_memory(console);
@@ -84,6 +85,7 @@ fn no_files<'a, O: Opens>(alloc: Global) -> Ends<'a, O>
 fn end_tracks<'a, R, O, E>(
     alloc: Global,
     watch: &Watch<'_, R>,
+    count: Option<u64>,
     films: &mut [Film<'_, O>],
     mut tracks: Vec<FilmTrack<'a, O>>,
     console: &mut Console<E>,
@@ -92,7 +94,7 @@ where
     R: Clock,
     O: Makes + Copy,
     E: Outlet,
-    ensures { IfOk result (λ ends. ends.are_whole ≡ true → AllZip IsWhole tracks.entry.items ends.files.items) }
+    ensures { IfOk result (λ ends. ends.are_whole ≡ true → AllZip (IsWhole count) tracks.entry.items ends.files.items) }
 {
     let mut told = [false; MOST_FILMS];
     watch.told(&mut told);
@@ -103,7 +105,7 @@ where
             let track = tracks.remove(0);
             let number = files.len();
             let written = watch.written(number);
-            let end = say_end(film, track, written, is_told(&told, number), console);
+            let end = say_end(film, track, count, written, is_told(&told, number), console);
             are_whole = are_whole & end.is_whole;
             files.push(end.files)?;
         }
@@ -169,6 +171,7 @@ fn is_told(told: &[bool], film: usize) -> bool {
 fn say_end<'a, O, E>(
     film: &mut Film<'_, O>,
     track: FilmTrack<'a, O>,
+    count: Option<u64>,
     written: u64,
     was_told: bool,
     console: &mut Console<E>,
@@ -176,8 +179,8 @@ fn say_end<'a, O, E>(
 where
     O: Makes + Copy + Drop,
     E: Outlet,
-    ensures whole { result.is_whole ≡ true → IsWhole track.entry result.files }
-    ensures frames { IfSome film.new.frames (IsComplete track.entry.result (was_stopped track.entry.reader)) }
+    ensures whole { result.is_whole ≡ true → IsWhole count track.entry result.files }
+    ensures frames { IfSome film.new.frames (IsComplete count track.entry.result (was_stopped track.entry.reader)) }
 {
     let Track {
         reader,
@@ -186,8 +189,9 @@ where
     } = track;
     let names = film.names;
     let file = names.file;
+    let reader = reader.get_ref();
     film.is_stopped = reader.get_ref().get_ref().is_stopped();
-    let result = outcome_of(result, film.is_stopped);
+    let result = outcome_of(result, film.is_stopped, count);
     let synced = film.settle(result.is_err(), written);
     let (writer, follower, broken) = writer.into_parts();
     if let Err(fault) = result {
@@ -197,7 +201,7 @@ where
         }
         match cause_of(fault) {
             Cause::Writing => console.blame_writing(file, writer.last_failure(), Some(written)),
-            cause => explain(file, cause, &reader, None, console),
+            cause => explain(file, cause, reader, None, console),
         }
     }
     let recording = writer.into_inner();
@@ -249,12 +253,18 @@ where
 }
 
 /// The outcome of a film: to its lane a stop that the program was asked for is a failed read, after the last frame that
-/// was read whole.
-fn outcome_of(outcome: Result<u64, LaneFault>, is_stopped: bool) -> Result<u64, LaneFault>
-    ensures { IfOk result (IsComplete outcome is_stopped) }
+/// was read whole, and so is the end of as many frames as were asked for.
+pub fn outcome_of(
+    outcome: Result<u64, LaneFault>,
+    is_stopped: bool,
+    count: Option<u64>,
+) -> Result<u64, LaneFault>
+    ensures { IfOk result (IsComplete count outcome is_stopped) }
 {
     match outcome {
-        Err(LaneFault::Input(frames, NetpbmFault::Io)) if is_stopped => Ok(frames),
+        Err(LaneFault::Input(frames, NetpbmFault::Io)) if is_stopped || count == Some(frames) => {
+            Ok(frames)
+        }
         _ => outcome,
     }
 }

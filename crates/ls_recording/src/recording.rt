@@ -1,8 +1,8 @@
 //! The command `record`: opens the films, records them, and says how each ended.
-ghost use Rattle.std.specs.Prelude.{◌≡◌, true, List, IfOk, MatchResult};
+ghost use Rattle.std.specs.Prelude.{◌≡◌, true, List, IfOk, IfErr, MatchResult};
 ghost use Rattle.std.specs.List.{AllZip};
-ghost use Rattle.ls_console.specs.View.Readers.{unread};
-ghost use Rattle.ls_recording.specs.View.Films.{HasTrack, IsWhole, IsRecorded, HasRecorded, held};
+ghost use Rattle.ls_opening.specs.View.Devices.{left_of};
+ghost use Rattle.ls_recording.specs.View.Films.{HasTrack, IsRefused, IsWhole, IsRecorded, HasRecorded, held};
 ghost use Rattle.ls_files.specs.declared.keeper.Targets.{Targets};
 
 use crate::ending::report::{table_of, write_report};
@@ -13,7 +13,7 @@ use ls_command::RecordRequest;
 use ls_console::{DONE, FAILED, Host, Program, Reader, no_memory};
 use ls_files::{Makes, Opens, Targets};
 use ls_frame::{Feed, Outlet, Tuning};
-use ls_opening::{Devices, Film, Opened, Writer, names_once, open_films};
+use ls_opening::{Devices, Film, Limit, Limited, Opened, Writer, names_once, open_films};
 use ls_recorder::{RecordFault, Recording as Tracks, Track, record};
 use std::io::Write;
 use std::sync::Wait;
@@ -21,12 +21,15 @@ use std::thread;
 use std::thread::Threads;
 use std::time::Clock;
 
+/// The reader of a film, as its lane is given it.
+pub type FilmReader<'a, O> = Limited<'a, Reader<'a, O>>;
+
 /// The outcome of a film: its reader, its writer and the result.
-pub type FilmTrack<'a, O> = Track<Reader<'a, O>, Writer<'a, O>>;
+pub type FilmTrack<'a, O> = Track<FilmReader<'a, O>, Writer<'a, O>>;
 
 /// The outcomes of all films; or the fault that kept them from being recorded, and what their lanes were given.
 pub type Recorded<'a, O> = Result<
-    Tracks<Reader<'a, O>, Writer<'a, O>>,
+    Tracks<FilmReader<'a, O>, Writer<'a, O>>,
     (RecordFault, Vec<Devices<'a, O>>),
 >;
 
@@ -39,7 +42,7 @@ struct Finished<'a, O: Opens> {
 
 /// Records the films that are asked for, says how each ended, and returns the status. On a terminal progress is always
 /// shown. With `DONE` each film was recorded from its own file to its own recording, with the tuning asked for: to its
-/// end, or as far as it was read when the program was asked to stop.
+/// end, as far as it was read when the program was asked to stop, or as many frames of it as are asked for.
 pub fn record_films<R, O, W, E>(program: Program<'_, R, O, W, E>, asked: RecordRequest<'_>) -> u8
 where
     R: Host + Clock + Threads + Wait + Sync,
@@ -47,24 +50,36 @@ where
     R::File: Send,
     W: Write + Send,
     E: Outlet + Send,
-    ensures { result ≡ DONE → HasRecorded O.holds R.File.remaining R.File.contents program.entry.opener asked.entry.tuning asked.entry.files.items }
+    ensures { result ≡ DONE → HasRecorded O.holds R.File.remaining R.File.contents program.entry.opener asked.entry.tuning asked.entry.count asked.entry.files.items }
 {
     let columns = program.console.columns();
     let names = match names_once(program.rt.alloc(), &asked, columns) {
         Ok(names) => names,
         Err(refusal) => return refusal.say(program.console),
     };
-    match open_films(program.rt, program.opener, &asked, &names, program.console) {
-        Ok(opened) => record_opened(program, &asked, opened),
+    let Ok(limits) = Limit::of_each(program.rt.alloc(), names.len(), asked.count) else {
+        return no_memory(program.console);
+    };
+    match open_films(
+        program.rt,
+        program.opener,
+        &asked,
+        &names,
+        &limits,
+        program.console,
+    ) {
+        Ok(opened) => record_opened(program, &asked, &limits, opened),
         Err(refusal) => refusal.say(program.console),
     }
 }
 
 /// Records films whose files are open, says how each ended, writes the report, and returns the status. With `DONE` each
-/// film was recorded to its end, or as far as it was read when the program was asked to stop.
+/// film was recorded to its end, as far as it was read when the program was asked to stop, or as many frames of it as are
+/// asked for.
 fn record_opened<'a, R, O, W, E>(
     program: Program<'_, R, O, W, E>,
     asked: &'a RecordRequest<'a>,
+    limits: &'a [Limit],
     opened: Opened<'a, O>,
 ) -> u8
 where
@@ -73,7 +88,7 @@ where
     O::File: Send,
     W: Write + Send,
     E: Outlet + Send,
-    ensures { result ≡ DONE → (files : List (Targets O O.File)) × AllZip (IsRecorded O.File.remaining O.File.contents) opened.entry.devices.items files }
+    ensures { result ≡ DONE → (files : List (Targets O O.File)) × AllZip (IsRecorded O.File.remaining O.File.contents asked.now.count) opened.entry.devices.items files }
 {
     let Program {
         rt,
@@ -88,7 +103,7 @@ where
     } = opened;
     let is_telling = asked.progress || console.is_terminal();
     let is_timed = is_telling || report.is_some();
-    let Ok(watch) = Watch::new(rt, rt.alloc(), films.len(), is_timed) else {
+    let Ok(watch) = Watch::new(rt, rt.alloc(), films.len(), limits, is_timed) else {
         return no_memory(console);
     };
     let teller = Teller {
@@ -99,7 +114,7 @@ where
             console: &mut *console,
         },
         watch: &watch,
-        files: &asked.files,
+        asked,
         films: &mut films,
         is_telling,
     };
@@ -110,7 +125,8 @@ where
         output: &mut *output,
         console: &mut *console,
     };
-    let Finished { status, files } = finish_films(program, &watch, &mut films, recorded);
+    let count = asked.count;
+    let Finished { status, files } = finish_films(program, &watch, count, &mut films, recorded);
     release(files);
     match report {
         Some(report) => {
@@ -137,7 +153,7 @@ where
     O::File: Send,
     W: Write + Send,
     E: Outlet + Send,
-    ensures { IfOk result (λ recording. AllZip (HasTrack (unread O.File.remaining) (held O.File.contents)) devices.entry.items recording.tracks.items) }
+    ensures { IfOk result (λ recording. AllZip (HasTrack (left_of O.File.remaining) (held O.File.contents)) devices.entry.items recording.tracks.items) }
 {
     record_beside(rt, asked, watch, move || teller.tell(), devices)
 }
@@ -180,7 +196,8 @@ where
     R: AllocGlobal + Clock + Threads + Wait + Sync,
     F: Feed + Send + Drop,
     W: Outlet + Send + Drop,
-    ensures { IfOk result (λ recording. AllZip (HasTrack F.remaining W.contents) films.items recording.tracks.items) }
+    ensures tracks { IfOk result (λ recording. AllZip (HasTrack F.remaining W.contents) films.items recording.tracks.items) }
+    ensures refused { IfErr result (λ refused. IsRefused asked.now films.items refused.0 refused.1.items) }
 {
     let (workers, capacity, window) = (asked.workers, asked.capacity, asked.window);
     let recorded = record(rt, rt.alloc(), films, workers, capacity, window, watch);
@@ -188,11 +205,12 @@ where
     recorded
 }
 
-/// Says how each film ended. The status is `DONE` only if each was recorded to its end, or up to a stop that the program
-/// was asked for, its files are on the disk, and what was to be said of it on standard output was written.
+/// Says how each film ended. The status is `DONE` only if each was recorded to its end, up to a stop that the program was
+/// asked for or to the last of as many frames as were asked for, its files are on the disk, and what was to be said of it on standard output was written.
 fn finish_films<'a, R, O, W, E>(
     program: Program<'_, R, O, W, E>,
     watch: &Watch<'_, R>,
+    count: Option<u64>,
     films: &mut [Film<'_, O>],
     recorded: Recorded<'a, O>,
 ) -> Finished<'a, O>
@@ -201,7 +219,7 @@ where
     O: Makes + Copy,
     W: Write,
     E: Outlet,
-    ensures { result.status ≡ DONE → MatchResult recorded.entry (λ recording. AllZip IsWhole recording.tracks.items result.files.items) (λ _. ⊥) }
+    ensures { result.status ≡ DONE → MatchResult recorded.entry (λ recording. AllZip (IsWhole count) recording.tracks.items result.files.items) (λ _. ⊥) }
 {
     let Program {
         rt,
@@ -209,7 +227,7 @@ where
         console,
         ..
     } = program;
-    let Ends { files, are_whole } = end_films(rt.alloc(), watch, films, recorded, console);
+    let Ends { files, are_whole } = end_films(rt.alloc(), watch, count, films, recorded, console);
     let said = say_counts(rt.alloc(), films, output, console);
     Finished {
         status: status_of(are_whole, said),

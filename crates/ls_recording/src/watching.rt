@@ -4,9 +4,11 @@ mod film;
 mod line;
 mod pace;
 pub mod progress;
+mod schedule;
 pub mod seen;
 
 use film::FilmWatch;
+use ls_opening::Limit;
 use ls_recorder::{Gate, LaneFault, Moment, Notice};
 use seen::Seen;
 use std::alloc::{AllocError, Global};
@@ -22,7 +24,8 @@ use std::time::{Clock, Duration, Instant};
 pub struct Watch<'r, R> {
     clock: &'r R,
     made: Option<Instant>,
-    films: Vec<FilmWatch>,
+    is_timed: bool,
+    films: Vec<FilmWatch<'r>>,
     /// The sum of the times at which codings ended, less those at which they began, modulo 2^64: once none goes on,
     /// the time that all took.
     coding: AtomicU64,
@@ -35,24 +38,23 @@ pub struct Watch<'r, R> {
 }
 
 impl<'r, R: Clock> Watch<'r, R> {
-    /// A watch over `films` films, of which nothing is seen yet, with times or without.
+    /// A watch over `films` films, of which nothing is seen yet, with their limits, if there are any, and with times or
+    /// without.
     pub fn new(
         clock: &'r R,
         alloc: Global,
         films: usize,
+        limits: &'r [Limit],
         is_timed: bool,
     ) -> Result<Watch<'r, R>, AllocError> {
         let mut watches = Vec::new(alloc);
-        for _film in 0..films {
-            watches.push(FilmWatch::new(alloc)?)?;
+        for film in 0..films {
+            watches.push(FilmWatch::new(alloc, limits.get(film))?)?;
         }
         Ok(Watch {
             clock,
-            made: if is_timed {
-                Instant::now(clock).ok()
-            } else {
-                None
-            },
+            made: Instant::now(clock).ok(),
+            is_timed,
             films: watches,
             coding: AtomicU64::new(0),
             over: AtomicBool::new(false),
@@ -61,8 +63,13 @@ impl<'r, R: Clock> Watch<'r, R> {
         })
     }
 
-    /// The time now.
+    /// The time now, if times are wanted.
     pub fn now(&self) -> u64 {
+        if self.is_timed { self.age() } else { 0 }
+    }
+
+    /// The nanoseconds since it was made; 0 if the clock can't be read.
+    pub fn age(&self) -> u64 {
         let Some(made) = self.made else {
             return 0;
         };

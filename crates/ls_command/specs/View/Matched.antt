@@ -64,6 +64,10 @@ module _ (words : ArgMatches) where
     pub progress : IsGiven (codes "progress") asked.progress
     pub report : HasText (codes "report") (text_in asked.report)
     pub index : IsGiven (codes "index") asked.index
+    pub sync : ReadsNumber (2 ^ 64) (codes "sync") (Some asked.sync)
+    pub keep_open : IsGiven (codes "keep-open") asked.keep_open
+    pub count : ReadsNumber (2 ^ 64) (codes "count") asked.count
+    pub seconds : ReadsNumber (2 ^ 64) (codes "for") asked.seconds
 
   -- The recording that is asked for.
   pub record AsksRecording (asked : RecordRequest) : Type 0 where

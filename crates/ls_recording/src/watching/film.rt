@@ -1,5 +1,7 @@
 //! The counts and times of one film.
 use super::seen::{Doing, Seen};
+use crate::ending::outcome_of;
+use ls_opening::Limit;
 use ls_recorder::{LaneFault, MOST_WINDOW, Notice};
 use std::alloc::{AllocError, Global};
 use std::sync::OnceLock;
@@ -9,7 +11,9 @@ use std::sync::atomic::{AtomicBool, AtomicU64, Ordering};
 /// half of its lane that writes, the others by the half that reads. Either half sets `end`, and the thread that
 /// watches sets `told`.
 #[derive(Drop)]
-pub struct FilmWatch {
+pub struct FilmWatch<'r> {
+    /// The film's limit, if it has one.
+    limit: Option<&'r Limit>,
     /// The number of frames that the reader was asked for, that it read, and that were put into the queue.
     asked: AtomicU64,
     read: AtomicU64,
@@ -32,14 +36,15 @@ pub struct FilmWatch {
     told: AtomicBool,
 }
 
-impl FilmWatch {
-    /// A film of which nothing is seen yet.
-    pub fn new(alloc: Global) -> Result<FilmWatch, AllocError> {
+impl<'r> FilmWatch<'r> {
+    /// A film of which nothing is seen yet, with its limit, if it has one.
+    pub fn new(alloc: Global, limit: Option<&'r Limit>) -> Result<FilmWatch<'r>, AllocError> {
         let mut read_at = Vec::new(alloc);
         for _place in 0..MOST_WINDOW {
             read_at.push(zero())?;
         }
         Ok(FilmWatch {
+            limit,
             asked: zero(),
             read: zero(),
             put: zero(),
@@ -83,12 +88,16 @@ impl FilmWatch {
 
     /// Sets the outcome, unless it is set already.
     fn end_so(&self, outcome: Result<u64, LaneFault>) {
-        let _known = self.end.try_set(outcome);
+        let count = self.limit.map(|limit| limit.count());
+        let _known = self.end.try_set(outcome_of(outcome, false, count));
     }
 
     /// Counts a frame that was read.
     fn take_read(&self, number: u64, bytes: u64, now: u64) {
         let _since = self.turn(now);
+        if let Some(limit) = self.limit {
+            limit.note(number);
+        }
         if number == 0 {
             self.first.store(now, Ordering::SeqCst);
         }

@@ -3,7 +3,9 @@
 use super::Watch;
 use super::line::line_of;
 use super::pace::Pace;
+use super::schedule::Schedule;
 use crate::ending::say_count;
+use ls_command::RecordRequest;
 use ls_console::{Console, Program, Shown};
 use ls_files::{Makes, Opens};
 use ls_frame::{Counted, NetpbmFault, Outlet};
@@ -12,7 +14,7 @@ use ls_recorder::LaneFault;
 use std::alloc::{AllocError, Global};
 use std::io::Write;
 use std::sync::Wait;
-use std::time::{Clock, Duration};
+use std::time::Clock;
 
 /// The nanoseconds after which progress is said again: a little less than the wait, which may end a little early.
 const DUE: u64 = 450_000_000;
@@ -22,8 +24,7 @@ const DUE: u64 = 450_000_000;
 pub struct Teller<'s, 'a, R, O: Makes, W, E> {
     pub program: Program<'s, R, O, W, E>,
     pub watch: &'s Watch<'s, R>,
-    /// The films' names.
-    pub files: &'s [&'s str],
+    pub asked: &'s RecordRequest<'s>,
     pub films: &'s mut [Film<'a, O>],
     /// Whether progress is said.
     pub is_telling: bool,
@@ -39,18 +40,20 @@ where
     /// Until the recording ends, settles the files of each film that ends. If progress is wanted, says immediately
     /// which film has ended or stopped, and twice a second how far each is.
     ///
-    /// Once the program was asked to stop, wakes the lanes whose pipes no one has opened, and says that, if progress is
-    /// wanted. (Each wait ends within 10 ms then, since what asks the program to stop interrupts its threads so often.)
+    /// Brings what is written onto the disk as often as it is asked for, and asks the program to stop once the time for
+    /// that has come. Once it was asked to stop, wakes the lanes whose pipes no one has opened, every 10 ms, and says
+    /// that, if progress is wanted.
     ///
     /// If memory runs out at the beginning, does nothing; later, what it ran out for isn't said that time.
     pub fn tell(self) {
         let Teller {
             program,
             watch,
-            files,
+            asked,
             films,
             is_telling,
         } = self;
+        let files = &*asked.files;
         let Program {
             rt,
             opener,
@@ -61,17 +64,25 @@ where
         let Ok(mut progress) = Progress::new(alloc, files, watch.now()) else {
             return;
         };
+        let mut schedule = Schedule::new(asked);
+        let mut is_stopping = false;
         let mut is_stop_said = false;
         for _ in rt.forever() {
-            watch.wait(longest_wait(is_telling));
+            watch.wait(schedule.wait(watch.age(), is_telling, is_stopping));
             if watch.is_over() {
                 break;
             }
-            let is_stopping = opener.is_stopping();
+            if schedule.is_end_due(watch.age()) {
+                opener.stop();
+            }
+            is_stopping = opener.is_stopping();
             if is_stopping {
                 wake_awaited(opener, watch, files);
             }
             settle_ended(opener, watch, films);
+            if schedule.is_sync_due(watch.age()) {
+                sync_so_far(watch, films);
+            }
             if is_telling {
                 if is_stopping && !is_stop_said {
                     tell_stop(watch, files.len(), console);
@@ -166,15 +177,6 @@ impl<'s> Progress<'s> {
     }
 }
 
-/// The longest wait if nothing happens.
-fn longest_wait(is_telling: bool) -> Duration {
-    if is_telling {
-        Duration::from_millis(500)
-    } else {
-        Duration::from_secs(3600)
-    }
-}
-
 /// Wakes the lanes that wait for what writes to their pipes, so that they see that they are to stop.
 fn wake_awaited<R, O>(opener: O, watch: &Watch<'_, R>, files: &[&str])
 where
@@ -197,7 +199,7 @@ fn tell_stop<R: Clock, E: Outlet>(watch: &Watch<'_, R>, films: usize, console: &
         }
     }
     console.say(format_args!(
-        "ending: {frames} frames are still to be coded; a second signal ends at once"
+        "ending: {frames} frames are still to be coded; another signal ends at once"
     ));
 }
 
@@ -222,6 +224,19 @@ where
                 let _synced = film.settle(result.is_err(), written);
             }
             None => film.replace(written),
+        }
+    }
+}
+
+/// Brings what is written of each film that goes on onto the disk.
+fn sync_so_far<R, O>(watch: &Watch<'_, R>, films: &mut [Film<'_, O>])
+where
+    R: Clock,
+    O: Makes + Copy + Drop,
+{
+    for (number, film) in films.iter_mut().enumerate() {
+        if watch.ended(number).is_none() {
+            film.sync_so_far(watch.written(number));
         }
     }
 }

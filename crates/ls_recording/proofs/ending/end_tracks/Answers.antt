@@ -8,7 +8,7 @@ use Rattle.ls_recording.proofs.ending.end_tracks.Goals.{then-not-is_empty+in_ok-
 use Rattle.ls_recording.proofs.ending.end_tracks.Goals as goal
 
 pub loop-film-init : goal.loop-film-init
-loop-film-init g c = ([], refl, λ so. subst (λ l. AllZip IsWhole [] l) (sym c.new-files.ensures.items) _)
+loop-film-init g c = ([], refl, λ so. subst (λ l. AllZip (IsWhole c.args.count) [] l) (sym c.new-files.ensures.items) _)
 
 pub remove-track-requires : goal.remove-track-requires
 remove-track-requires g c =
@@ -26,7 +26,7 @@ loop-film-preserved g c =
           let first : left ≡ w.remove-track.result ∷ w.remove-track.new.self.items = taken-first left _ _ some w.remove-track.ensures.value w.remove-track.ensures.items in
           let more : w.push.new.self.items ≡ c.loop-film.files.items ++ w.say_end-end.result.files ∷ [] = search rules in
           rw w.tracks-is (rw w.files-is (rw w.are_whole-is (rw more
-          (zipped-if-more IsWhole c.loop-film.are_whole w.say_end-end.result.is_whole c.args.tracks.items left w.remove-track.new.self.items c.loop-film.files.items w.remove-track.result
+          (zipped-if-more (IsWhole c.args.count) c.loop-film.are_whole w.say_end-end.result.is_whole c.args.tracks.items left w.remove-track.new.self.items c.loop-film.files.items w.remove-track.result
           w.say_end-end.result.files before first w.say_end-end.ensures.whole))))
       | else-not-is_empty w ↦ rw w.tracks-is (rw w.files-is (rw w.are_whole-is before))
     ]
@@ -36,4 +36,4 @@ returns g c = λ so.
     let left = c.loop-film.tracks.items in
     let empty : c.is_empty-2.result ≡ true = and_right c.loop-film.are_whole c.is_empty-2.result so in
     let none : length left ≡ 0 = omega (arith, eqb-true _ 0 (sym c.is_empty-2.ensures ∙ empty), c.loop-film.tracks.ok) in
-    zipped-if-all IsWhole c.loop-film.are_whole c.args.tracks.items left c.loop-film.files.items c.loop-film.invariant (and_left c.loop-film.are_whole c.is_empty-2.result so) (none-left left none)
+    zipped-if-all (IsWhole c.args.count) c.loop-film.are_whole c.args.tracks.items left c.loop-film.files.items c.loop-film.invariant (and_left c.loop-film.are_whole c.is_empty-2.result so) (none-left left none)
