@@ -203,7 +203,7 @@ on a terminal this is always reported, in one line";
 
 pub const REPORT_HELP: &str = "\
 The file for a report, created before anything is recorded and written at the end: for each film its frames, bytes,
-speed and longest delay, and how busy the workers were";
+speed and longest delay, and how busy the workers were; as JSON if its name ends with .json";
 
 pub const COUNT_HELP: &str = "\
 The number of frames, 1 or more, after which a film is read no further, also if it goes on";

@@ -1,4 +1,5 @@
 //! Says how each film ended, once its recording has ended and is on the disk.
+mod json;
 pub mod report;
 mod table;
 

@@ -5,7 +5,7 @@ ghost use Rattle.ls_opening.specs.View.Devices.{left_of};
 ghost use Rattle.ls_recording.specs.View.Films.{HasTrack, IsRefused, IsWhole, IsRecorded, HasRecorded, held};
 ghost use Rattle.ls_files.specs.declared.keeper.Targets.{Targets};
 
-use crate::ending::report::{table_of, write_report};
+use crate::ending::report::{report_of, write_report};
 use crate::ending::{Ends, end_films, release, say_counts};
 use crate::watching::Watch;
 use crate::watching::progress::Teller;
@@ -130,10 +130,10 @@ where
     release(files);
     match report {
         Some(report) => {
-            let table = table_of(rt.alloc(), &watch, &films, asked.workers);
+            let text = report_of(rt.alloc(), report.path, &watch, &films, asked.workers);
             // The films' files are unlocked before the report is written, which may wait for what reads it.
             drop(films);
-            worse(status, write_report(report, table, console))
+            worse(status, write_report(report, text, console))
         }
         None => status,
     }

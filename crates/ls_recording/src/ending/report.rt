@@ -1,5 +1,5 @@
-//! The report of a recording: a table of how each film went, and how busy the workers were.
-use super::table::{add_film, add_workers, head};
+//! The report of a recording: how each film went, and how busy the workers were, as a table or as JSON.
+use super::{json, table};
 use crate::watching::Watch;
 use ls_console::{Console, DONE, FAILED, MadeFile, Shown};
 use ls_files::Makes;
@@ -8,11 +8,14 @@ use ls_opening::{Film, failed_of};
 use std::alloc::{AllocError, Global};
 use std::time::Clock;
 
-/// Writes a table to the file of a report, if there was memory for one, and syncs it to disk; or says that it can't.
+/// The ending of the name of a report that is written as JSON.
+const JSON: &str = ".json";
+
+/// Writes a text to the file of a report, if there was memory for one, and syncs it to disk; or says that it can't.
 /// Returns the status.
 pub fn write_report<O, E>(
     report: MadeFile<'_, O>,
-    table: Result<String, AllocError>,
+    text: Result<String, AllocError>,
     console: &mut Console<E>,
 ) -> u8
 where
@@ -25,7 +28,7 @@ where
         mut keeper,
     } = report;
     let shown = Shown(path);
-    let Ok(text) = table else {
+    let Ok(text) = text else {
         console.say(format_args!("{shown}: no memory"));
         keeper.give_back();
         return FAILED;
@@ -53,8 +56,27 @@ where
     status
 }
 
-/// The table of a recording that has ended: a line for each film, by its name, and one of the workers.
-pub fn table_of<R, O>(
+/// The report of a recording that has ended, by the name of its file: JSON, or a table.
+pub fn report_of<R, O>(
+    alloc: Global,
+    path: &str,
+    watch: &Watch<'_, R>,
+    films: &[Film<'_, O>],
+    workers: usize,
+) -> Result<String, AllocError>
+where
+    R: Clock,
+    O: Makes,
+{
+    if path.ends_with(JSON) {
+        json_of(alloc, watch, films, workers)
+    } else {
+        table_of(alloc, watch, films, workers)
+    }
+}
+
+/// The report as JSON.
+fn json_of<R, O>(
     alloc: Global,
     watch: &Watch<'_, R>,
     films: &[Film<'_, O>],
@@ -64,12 +86,34 @@ where
     R: Clock,
     O: Makes,
 {
-    let mut table = head(alloc)?;
+    let mut report = json::begin(alloc)?;
     for (number, film) in films.iter().enumerate() {
         if let Some(seen) = watch.seen(number) {
-            add_film(alloc, &mut table, film.names.file, film.is_stopped, &seen)?;
+            let names = (film.names.file, film.names.recording.as_str());
+            json::add_film(alloc, &mut report, names, film.is_stopped, &seen)?;
         }
     }
-    add_workers(alloc, &mut table, watch.coding(), watch.lasted(), workers)?;
-    Ok(table)
+    json::end(alloc, &mut report, watch.coding(), watch.lasted(), workers)?;
+    Ok(report)
+}
+
+/// The table of a recording that has ended: a line for each film, by its name, and one of the workers.
+fn table_of<R, O>(
+    alloc: Global,
+    watch: &Watch<'_, R>,
+    films: &[Film<'_, O>],
+    workers: usize,
+) -> Result<String, AllocError>
+where
+    R: Clock,
+    O: Makes,
+{
+    let mut lines = table::head(alloc)?;
+    for (number, film) in films.iter().enumerate() {
+        if let Some(seen) = watch.seen(number) {
+            table::add_film(alloc, &mut lines, film.names.file, film.is_stopped, &seen)?;
+        }
+    }
+    table::add_workers(alloc, &mut lines, watch.coding(), watch.lasted(), workers)?;
+    Ok(lines)
 }
