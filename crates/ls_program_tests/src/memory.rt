@@ -105,6 +105,10 @@ impl<'m, 'v> Opens for Memory<'m, 'v> {
         }
     }
 
+    fn open_kept(&self, _path: &str) -> io::Result<MemoryFile<'m, 'v>> {
+        Err(io::Error::from(ErrorKind::Unsupported))
+    }
+
     fn open_to_write(&self, _path: &str) -> io::Result<MemoryFile<'m, 'v>> {
         Err(io::Error::from(ErrorKind::Unsupported))
     }
@@ -114,6 +118,8 @@ impl<'m, 'v> Opens for Memory<'m, 'v> {
     fn is_stopping(&self) -> bool {
         false
     }
+
+    fn stop(&self) {}
 
     fn wake(&self, _path: &str) {}
 }
