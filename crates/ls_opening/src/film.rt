@@ -106,17 +106,16 @@ impl<'a, O: Makes + Copy + Drop> Film<'a, O> {
     }
 
     /// Brings what is written of the recording onto the disk while it goes on, and of its index no more than that.
-    pub fn sync_so_far(&mut self, written: u64) {
+    /// Returns whether either failed for the first time.
+    pub fn sync_so_far(&mut self, written: u64) -> bool {
         if written == self.synced_frames || self.unsynced.is_some() {
-            return;
+            return false;
         }
         self.synced_frames = written;
-        if let Err(failure) = self.sync_index() {
-            self.unsynced_index = Some(failure);
-        }
-        if let Err(failure) = self.sync() {
-            self.unsynced = Some(failure);
-        }
+        let was_unsynced = self.unsynced_index.is_some();
+        self.unsynced_index = self.sync_index().err();
+        self.unsynced = self.sync().err();
+        self.unsynced.is_some() || (self.unsynced_index.is_some() && !was_unsynced)
     }
 
     /// Settles the files of a film that has ended, with a fault or without, and with this number of codestreams: syncs

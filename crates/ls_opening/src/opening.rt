@@ -262,8 +262,8 @@ where
         for film in self.names {
             let (source, writer) = (sources.remove(0), writers.remove(0));
             let reader = reader_of(alloc, film, source, self.asked.keep_open, console)?;
-            let reader = Limited::new(reader, self.limits.get(devices.len()));
-            devices.push((reader, writer, self.asked.tuning))?;
+            let limited = Limited::new(reader, self.limits.get(devices.len()));
+            devices.push((limited, writer, self.asked.tuning))?;
         }
         Ok(devices)
     }

@@ -81,7 +81,7 @@ where
             }
             settle_ended(opener, watch, films);
             if schedule.is_sync_due(watch.age()) {
-                sync_so_far(watch, films);
+                sync_so_far(watch, films, console);
             }
             if is_telling {
                 if is_stopping && !is_stop_said {
@@ -228,15 +228,17 @@ where
     }
 }
 
-/// Brings what is written of each film that goes on onto the disk.
-fn sync_so_far<R, O>(watch: &Watch<'_, R>, films: &mut [Film<'_, O>])
+/// Brings what is written of each film that goes on onto the disk, and says at once if that fails.
+fn sync_so_far<R, O, E>(watch: &Watch<'_, R>, films: &mut [Film<'_, O>], console: &mut Console<E>)
 where
     R: Clock,
     O: Makes + Copy + Drop,
+    E: Outlet,
 {
     for (number, film) in films.iter_mut().enumerate() {
-        if watch.ended(number).is_none() {
-            film.sync_so_far(watch.written(number));
+        if watch.ended(number).is_none() && film.sync_so_far(watch.written(number)) {
+            let file = Shown(film.names.file);
+            console.say(format_args!("{file}: what is recorded can't be brought onto the disk"));
         }
     }
 }

@@ -1,7 +1,8 @@
-use Rattle.std.proofs.Common.{◌≡◌, ◌<◌, ◌∷◌, [], ◌++◌, length, arith, rules, refl, subst}
+use Rattle.std.proofs.Common.{◌≡◌, ◌<◌, ◌∷◌, [], ◌++◌, length, arith, rules, refl, ap, subst, ◌∙◌}
 use Rattle.std.specs.List.{AllZip}
 use Rattle.std.proofs.lemmas.List.{take_all}
 use Rattle.ls_files.specs.View.Files.{ReadsFileAt}
+use Rattle.ls_console.specs.View.Readers.{unread}
 use Rattle.ls_opening.specs.View.Devices.{FilmDevices, AreDevicesOf, IsWriterFor}
 use Rattle.ls_opening.proofs.ZipLemmas.{zip-first, zip-next, zip-some}
 use Rattle.ls_opening.proofs.DeviceLemmas.{reads-film}
@@ -25,7 +26,7 @@ loop-film-preserved g c =
     let names = c.args.self.now.names.now in
     let i = c.loop-film.film-index in
     let film = c.film-item.result in
-    let device : FilmDevices g.row.O.Denot g.row.R-File.Denot = (c.in_ok-reader.reader, c.remove-writer.result, c.args.self.now.asked.now.tuning) in
+    let device : FilmDevices g.row.O.Denot g.row.R-File.Denot = (c.new-limited.result, c.remove-writer.result, c.args.self.now.asked.now.tuning) in
     let less : i < length names = search rules in
     let source = zip-first (λ names source. ReadsFileAt g.O.Opens.holds g.R.File.Read.remaining c.args.self.now.opener names.file.now source) names i
     c.loop-film.sources.items c.remove-source.new.self.items film c.remove-source.result less c.film-item.is c.loop-film.invariant.sources c.remove-source.ensures.value c.remove-source.ensures.items in
@@ -37,7 +38,8 @@ loop-film-preserved g c =
       writers = writer.1;
       devices = rw pushed (zip-next (AreDevicesOf g.O.Opens.holds g.R.File.Read.remaining c.args.self.now.opener c.args.self.now.asked.now.tuning) names i c.loop-film.devices.items film device less c.film-item.is
           c.loop-film.invariant.devices (record {
-            film = reads-film g.O.Opens.holds g.R.File.Read.remaining c.args.self.now.opener film.file.now c.remove-source.result c.in_ok-reader.reader source.0 c.in_ok-reader.ensures;
+            film = reads-film g.O.Opens.holds g.R.File.Read.remaining c.args.self.now.opener film.file.now c.remove-source.result c.new-limited.result source.0
+                (ap (unread g.R.File.Read.remaining) c.new-limited.ensures ∙ c.in_ok-reader.ensures);
             recording = writer.0;
             tuning_is = refl;
           }));
