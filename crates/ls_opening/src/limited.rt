@@ -34,11 +34,6 @@ impl Limit {
         Ok(limits)
     }
 
-    /// The number of frames.
-    pub fn count(&self) -> u64 {
-        self.count
-    }
-
     /// Notes that the frame of this number was read.
     pub fn note(&self, number: u64) {
         if number.saturating_add(1) == self.count {

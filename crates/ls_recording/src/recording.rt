@@ -8,7 +8,9 @@ ghost use Rattle.ls_files.specs.declared.keeper.Targets.{Targets};
 use crate::ending::report::{report_of, write_report};
 use crate::ending::{Ends, end_films, release, say_counts};
 use crate::watching::Watch;
+use crate::watching::limiting::Limiting;
 use crate::watching::progress::Teller;
+use crate::watching::schedule::Schedule;
 use ls_command::RecordRequest;
 use ls_console::{DONE, FAILED, Host, Program, Reader, no_memory};
 use ls_files::{Makes, Opens, Targets};
@@ -103,7 +105,7 @@ where
     } = opened;
     let is_telling = asked.progress || console.is_terminal();
     let is_timed = is_telling || report.is_some();
-    let Ok(watch) = Watch::new(rt, rt.alloc(), films.len(), limits, is_timed) else {
+    let Ok(watch) = Watch::new(rt, rt.alloc(), films.len(), asked.count, is_timed) else {
         return no_memory(console);
     };
     let teller = Teller {
@@ -114,11 +116,12 @@ where
             console: &mut *console,
         },
         watch: &watch,
-        asked,
+        schedule: Schedule::new(asked),
+        files: &asked.files,
         films: &mut films,
         is_telling,
     };
-    let recorded = record_watched(rt, asked, &watch, teller, devices);
+    let recorded = record_watched(rt, asked, limits, &watch, teller, devices);
     let program = Program {
         rt,
         opener,
@@ -143,6 +146,7 @@ where
 fn record_watched<'a, R, O, W, E>(
     rt: &R,
     asked: &RecordRequest<'_>,
+    limits: &[Limit],
     watch: &Watch<'_, R>,
     teller: Teller<'_, 'a, R, O, W, E>,
     devices: Vec<Devices<'a, O>>,
@@ -155,7 +159,7 @@ where
     E: Outlet + Send,
     ensures { IfOk result (λ recording. AllZip (HasTrack (left_of O.File.remaining) (held O.File.contents)) devices.entry.items recording.tracks.items) }
 {
-    record_beside(rt, asked, watch, move || teller.tell(), devices)
+    record_beside(rt, asked, limits, watch, move || teller.tell(), devices)
 }
 
 /// Records films while another call goes on in a thread of its own, or comes after the recording if no thread can be
@@ -163,6 +167,7 @@ where
 fn record_beside<R, F, W, T>(
     rt: &R,
     asked: &RecordRequest<'_>,
+    limits: &[Limit],
     watch: &Watch<'_, R>,
     beside: T,
     films: Vec<(F, W, Tuning)>,
@@ -180,7 +185,7 @@ where
         beside,
         move || -> Result<Tracks<F, W>, (RecordFault, Vec<(F, W, Tuning)>)>
             ensures { IfOk result (λ recording. AllZip (HasTrack F.remaining W.contents) films.items recording.tracks.items) }
-        { record_to_end(rt, asked, watch, films) },
+        { record_to_end(rt, asked, limits, watch, films) },
     );
     recorded
 }
@@ -189,6 +194,7 @@ where
 fn record_to_end<R, F, W>(
     rt: &R,
     asked: &RecordRequest<'_>,
+    limits: &[Limit],
     watch: &Watch<'_, R>,
     films: Vec<(F, W, Tuning)>,
 ) -> Result<Tracks<F, W>, (RecordFault, Vec<(F, W, Tuning)>)>
@@ -200,7 +206,8 @@ where
     ensures refused { IfErr result (λ refused. IsRefused asked.now films.items refused.0 refused.1.items) }
 {
     let (workers, capacity, window) = (asked.workers, asked.capacity, asked.window);
-    let recorded = record(rt, rt.alloc(), films, workers, capacity, window, watch);
+    let gate = Limiting { watch, limits };
+    let recorded = record(rt, rt.alloc(), films, workers, capacity, window, &gate);
     watch.end();
     recorded
 }

@@ -1,14 +1,14 @@
 //! Watches a recording while it goes on: a gate that counts and takes times, so that each film's files are settled
 //! when it ends, and for progress and a report.
 mod film;
+pub mod limiting;
 mod line;
 mod pace;
 pub mod progress;
-mod schedule;
+pub mod schedule;
 pub mod seen;
 
 use film::FilmWatch;
-use ls_opening::Limit;
 use ls_recorder::{Gate, LaneFault, Moment, Notice};
 use seen::Seen;
 use std::alloc::{AllocError, Global};
@@ -25,7 +25,7 @@ pub struct Watch<'r, R> {
     clock: &'r R,
     made: Option<Instant>,
     is_timed: bool,
-    films: Vec<FilmWatch<'r>>,
+    films: Vec<FilmWatch>,
     /// The sum of the times at which codings ended, less those at which they began, modulo 2^64: once none goes on,
     /// the time that all took.
     coding: AtomicU64,
@@ -38,18 +38,18 @@ pub struct Watch<'r, R> {
 }
 
 impl<'r, R: Clock> Watch<'r, R> {
-    /// A watch over `films` films, of which nothing is seen yet, with their limits, if there are any, and with times or
-    /// without.
+    /// A watch over `films` films, of which nothing is seen yet, with the number of frames after which each is read no
+    /// further, if there is one, and with times or without.
     pub fn new(
         clock: &'r R,
         alloc: Global,
         films: usize,
-        limits: &'r [Limit],
+        count: Option<u64>,
         is_timed: bool,
     ) -> Result<Watch<'r, R>, AllocError> {
         let mut watches = Vec::new(alloc);
-        for film in 0..films {
-            watches.push(FilmWatch::new(alloc, limits.get(film))?)?;
+        for _film in 0..films {
+            watches.push(FilmWatch::new(alloc, count)?)?;
         }
         Ok(Watch {
             clock,

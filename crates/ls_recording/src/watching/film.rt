@@ -1,7 +1,6 @@
 //! The counts and times of one film.
 use super::seen::{Doing, Seen};
 use crate::ending::outcome_of;
-use ls_opening::Limit;
 use ls_recorder::{LaneFault, MOST_WINDOW, Notice};
 use std::alloc::{AllocError, Global};
 use std::sync::OnceLock;
@@ -11,9 +10,9 @@ use std::sync::atomic::{AtomicBool, AtomicU64, Ordering};
 /// half of its lane that writes, the others by the half that reads. Either half sets `end`, and the thread that
 /// watches sets `told`.
 #[derive(Drop)]
-pub struct FilmWatch<'r> {
-    /// The film's limit, if it has one.
-    limit: Option<&'r Limit>,
+pub struct FilmWatch {
+    /// The number of frames after which the film is read no further, if there is one.
+    count: Option<u64>,
     /// The number of frames that the reader was asked for, that it read, and that were put into the queue.
     asked: AtomicU64,
     read: AtomicU64,
@@ -36,15 +35,15 @@ pub struct FilmWatch<'r> {
     told: AtomicBool,
 }
 
-impl<'r> FilmWatch<'r> {
-    /// A film of which nothing is seen yet, with its limit, if it has one.
-    pub fn new(alloc: Global, limit: Option<&'r Limit>) -> Result<FilmWatch<'r>, AllocError> {
+impl FilmWatch {
+    /// A film of which nothing is seen yet, with the number of frames after which it is read no further, if there is one.
+    pub fn new(alloc: Global, count: Option<u64>) -> Result<FilmWatch, AllocError> {
         let mut read_at = Vec::new(alloc);
         for _place in 0..MOST_WINDOW {
             read_at.push(zero())?;
         }
         Ok(FilmWatch {
-            limit,
+            count,
             asked: zero(),
             read: zero(),
             put: zero(),
@@ -88,16 +87,12 @@ impl<'r> FilmWatch<'r> {
 
     /// Sets the outcome, unless it is set already.
     fn end_so(&self, outcome: Result<u64, LaneFault>) {
-        let count = self.limit.map(|limit| limit.count());
-        let _known = self.end.try_set(outcome_of(outcome, false, count));
+        let _known = self.end.try_set(outcome_of(outcome, false, self.count));
     }
 
     /// Counts a frame that was read.
     fn take_read(&self, number: u64, bytes: u64, now: u64) {
         let _since = self.turn(now);
-        if let Some(limit) = self.limit {
-            limit.note(number);
-        }
         if number == 0 {
             self.first.store(now, Ordering::SeqCst);
         }

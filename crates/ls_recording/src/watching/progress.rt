@@ -5,7 +5,6 @@ use super::line::line_of;
 use super::pace::Pace;
 use super::schedule::Schedule;
 use crate::ending::say_count;
-use ls_command::RecordRequest;
 use ls_console::{Console, Program, Shown};
 use ls_files::{Makes, Opens};
 use ls_frame::{Counted, NetpbmFault, Outlet};
@@ -24,7 +23,9 @@ const DUE: u64 = 450_000_000;
 pub struct Teller<'s, 'a, R, O: Makes, W, E> {
     pub program: Program<'s, R, O, W, E>,
     pub watch: &'s Watch<'s, R>,
-    pub asked: &'s RecordRequest<'s>,
+    pub schedule: Schedule,
+    /// The films' names.
+    pub files: &'s [&'s str],
     pub films: &'s mut [Film<'a, O>],
     /// Whether progress is said.
     pub is_telling: bool,
@@ -49,11 +50,11 @@ where
         let Teller {
             program,
             watch,
-            asked,
+            mut schedule,
+            files,
             films,
             is_telling,
         } = self;
-        let files = &*asked.files;
         let Program {
             rt,
             opener,
@@ -64,7 +65,6 @@ where
         let Ok(mut progress) = Progress::new(alloc, files, watch.now()) else {
             return;
         };
-        let mut schedule = Schedule::new(asked);
         let mut is_stopping = false;
         let mut is_stop_said = false;
         for _ in rt.forever() {
@@ -210,7 +210,7 @@ fn may_be_stop<O: Opens>(opener: &O, fault: LaneFault) -> bool {
 }
 
 /// Settles the files of each film that has ended since, and removes earlier files that the recordings of the others
-/// have replaced. Leaves a film without a frame for the end, if it may have been stopped.
+/// have replaced.
 fn settle_ended<R, O>(opener: O, watch: &Watch<'_, R>, films: &mut [Film<'_, O>])
 where
     R: Clock,
@@ -219,11 +219,24 @@ where
     for (number, film) in films.iter_mut().enumerate() {
         let written = watch.written(number);
         match watch.ended(number) {
-            Some(Err(fault)) if written == 0 && may_be_stop(&opener, fault) => {}
-            Some(result) => {
-                let _synced = film.settle(result.is_err(), written);
-            }
+            Some(outcome) => settle(&opener, film, outcome, written),
             None => film.replace(written),
+        }
+    }
+}
+
+/// Settles the files of a film that has ended with this result and this number of codestreams. Leaves a film without a
+/// frame for the end, if it may have been stopped.
+fn settle<O: Makes + Copy + Drop>(
+    opener: &O,
+    film: &mut Film<'_, O>,
+    outcome: Result<u64, LaneFault>,
+    written: u64,
+) {
+    match outcome {
+        Err(fault) if written == 0 && may_be_stop(opener, fault) => {}
+        _ => {
+            let _synced = film.settle(outcome.is_err(), written);
         }
     }
 }
