@@ -2,6 +2,7 @@
 pub mod Batches
 pub mod Checking
 pub mod Checks
+pub mod Coded
 pub mod Comparing
 pub mod Entries
 pub mod Followed

@@ -16,6 +16,7 @@ use crate::faults::IndexFault;
 use crate::index::{line, write_line};
 use ls_film::MOST_FRAMES;
 use ls_frame::{Failed, Outlet};
+use ls_stream::StreamFault;
 use std::alloc::{AllocError, Global};
 use std::io;
 use std::io::Write;
@@ -150,6 +151,24 @@ impl<I: Outlet> Follower<I> {
         let written = write_line(&mut self.index, line.as_bytes(), written)?;
         self.progress.step(indexed.bytes().len(), written);
         Ok(())
+    }
+
+    /// Why the index of a recording that ends here isn't complete, if bytes are held back: `Stream`, with the number of
+    /// their codestream and `Truncated`.
+    pub fn unfinished(&self) -> Option<IndexFault>
+        ensures none { IfNone result ((followed self.now).pending ≡ []) }
+        ensures some { IfSome result (λ fault. (0 < length (followed self.now).pending) × (fault ≡ IndexFault.Stream (followed self.now).number StreamFault.Truncated)) }
+    {
+        let Progress {
+            pending,
+            number,
+            ..
+        } = &self.progress;
+        if pending.is_empty() {
+            None
+        } else {
+            Some(IndexFault::Stream(*number, StreamFault::Truncated))
+        }
     }
 
     /// Returns the writer of the index.

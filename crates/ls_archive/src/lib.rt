@@ -8,7 +8,7 @@
 //! index, line by line, and damage is reported (`specs/View/Checking.antt`, `specs/View/Checks.antt`). Several threads
 //! can decode the recording for a comparison, or look at its codestreams for a check by an index; the result is the
 //! same (`specs/View/Comparing.antt`, `specs/View/Batches.antt`). An index can also be written while its recording is
-//! being written (`specs/View/Following.antt`).
+//! being written (`specs/View/Following.antt`), as that of a film that is coded (`specs/View/Coded.antt`).
 //!
 //! ```
 //! use ls_archive::{IndexFault, write_index};
@@ -28,13 +28,14 @@
 //! `ls_frame`.
 //!
 //! In reading order: `faults` (why writing an index, or a comparison, stopped), `index` (the lines), `entry` (a
-//! codestream, and what its headers say), `following` (an index that is written with its recording), `checking` (a
+//! codestream, and what its headers say), `following` (an index that is written with its recording), `coding` (a film that is coded so), `checking` (a
 //! recording and its index: lines are taken in its `batches`, and one thread or several look at their codestreams, in
 //! its `looking`), `places` (codestreams that stand elsewhere than the index says), `verifying` (a film and its
 //! recording), `laws`.
 #![tactic(auto)]
 
 pub mod checking;
+pub mod coding;
 mod entry;
 pub mod faults;
 pub mod following;
@@ -44,6 +45,7 @@ pub mod places;
 pub mod verifying;
 
 pub use checking::{CheckFault, Checked, Damage, Finding, Findings, check, check_by};
+pub use coding::{CodedFilm, code_film_with_index};
 pub use faults::{IndexFault, VerifyFault};
 pub use following::{Follower, Indexing};
 pub use index::{index_bytes, write_index};

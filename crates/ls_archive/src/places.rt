@@ -1,11 +1,11 @@
 //! Finds the codestreams of an index in a recording where they don't stand at the offsets that the index says.
-ghost use Rattle.std.specs.Prelude.{◌≡◌, ◌⊎◌, ◌<◌, ◌^◌, length, IfOk, IfErr, IfSome, IsTrue};
+ghost use Rattle.std.specs.Prelude.{◌≡◌, ◌⊎◌, ◌+◌, ◌<◌, ◌^◌, length, IfOk, IfErr, IfSome, IsTrue};
 ghost use Rattle.ls_frame.specs.View.Chunks.{left_in, inner_reader};
 ghost use Rattle.ls_frame.specs.View.Devices.{count_after};
 ghost use Rattle.ls_film.specs.View.Steps.{failed_by};
 ghost use Rattle.ls_salvage.specs.View.Ends.{is_io};
 ghost use Rattle.ls_archive.specs.View.Checks.{blames_index, blames_recording};
-ghost use Rattle.ls_archive.specs.View.Places.{IsSaidBy, StopsInIndex, GaveStanding, IsSmall};
+ghost use Rattle.ls_archive.specs.View.Places.{IsSaidBy, StopsInIndex, GaveStanding, IsSmall, AreStanding, AreApart, Fits, GivesPlace, size_standing, GivesStanding};
 
 use crate::checking::{CheckFault, next_line};
 use crate::entry::Indexed;
@@ -79,6 +79,8 @@ pub fn find_places<R: Feed>(
     end: u64,
 ) -> Result<Vec<Option<u64>>, CheckFault>
     ensures count { IfOk result (λ places. length places.items ≡ length wanted.now) }
+    ensures stands { IfOk result (λ places. AreStanding (left_in R.remaining recording.old) wanted.now places.items) }
+    ensures apart { IfOk result (λ places. AreApart places.items) }
     ensures blame { IfErr result (λ fault. (fault ≡ CheckFault.Io) ⊎ (fault ≡ CheckFault.NoMemory)) }
     ensures reads { R.failed_reads (inner_reader recording.new) ≡ count_after (failed_by blames_recording result) (R.failed_reads (inner_reader recording.old)) }
 {
@@ -90,14 +92,9 @@ pub fn find_places<R: Feed>(
             return Ok(places);
         }
         match next_standing(alloc, recording) {
-            Ok(Some(Standing::Codestream(indexed))) => {
-                let bytes = indexed.bytes();
-                let sum: [u8; 32] = Sha256::digest(bytes);
-                let picked = search.pick(wanted, &places, place, end, bytes.len() as u64, &sum);
-                give_place(wanted, &mut places, picked, place, bytes.len() as u64, &sum);
-                place += bytes.len() as u64;
+            Ok(Some(standing)) => {
+                place = search.pass(wanted, &mut places, &standing, place, end);
             }
-            Ok(Some(Standing::Gap(count))) => place += count,
             Ok(None) => return Ok(places),
             Err(ReadFault::Io) => return Err(CheckFault::Io),
             Err(ReadFault::NoMemory) => return Err(CheckFault::NoMemory),
@@ -148,6 +145,7 @@ fn give_place(
 )
     requires { length places.old.items ≡ length wanted.now }
     ensures as_many { length places.new.items ≡ length places.old.items }
+    ensures gives { GivesPlace wanted.now places.old.items places.new.items picked place count sum.now }
 {
     if fits(wanted, places, picked, count, sum) {
         places[picked] = Some(place);
@@ -163,12 +161,19 @@ fn fits(
     sum: &[u8; 32],
 ) -> bool
     requires { length places.now ≡ length wanted.now }
-    ensures { IsTrue result → number < length wanted.now }
+    ensures within { IsTrue result → number < length wanted.now }
+    ensures fits { IsTrue result → Fits wanted.now places.now number count sum.now }
 {
-    number < wanted.len()
-        && places[number].is_none()
-        && wanted[number].count == count
-        && wanted[number].sum == Some(*sum)
+    let Some(one) = wanted.get(number) else {
+        return false;
+    };
+    let Some(None) = places.get(number) else {
+        return false;
+    };
+    match one.sum {
+        Some(own) => one.count == count && own.as_slice() == sum.as_slice(),
+        None => false,
+    }
 }
 
 /// The state of a search.
@@ -207,6 +212,36 @@ impl Search {
             next,
             here: 0,
         })
+    }
+
+    /// Passes what stands at this place: if it is a wanted codestream, the place is given to that. Returns the place
+    /// after it.
+    fn pass(
+        &mut self,
+        wanted: &[Wanted],
+        places: &mut Vec<Option<u64>>,
+        standing: &Standing,
+        place: u64,
+        end: u64,
+    ) -> u64
+        requires as_many { length places.old.items ≡ length wanted.now }
+        requires room { place < MOST_PLACE }
+        requires small { IsSmall standing.now }
+        ensures as_many { length places.new.items ≡ length places.old.items }
+        ensures after { result ≡ place + size_standing standing.now }
+        ensures gives { GivesStanding wanted.now places.old.items places.new.items place standing.now }
+    {
+        match standing {
+            Standing::Codestream(indexed) => {
+                let bytes = indexed.bytes();
+                let count = bytes.len() as u64;
+                let sum: [u8; 32] = Sha256::digest(bytes);
+                let picked = self.pick(wanted, places, place, end, count, &sum);
+                give_place(wanted, places, picked, place, count, &sum);
+                place + count
+            }
+            Standing::Gap(count) => place + *count,
+        }
     }
 
     /// Returns the number of the wanted codestream to which `count` bytes with this sum at this place may be given, or

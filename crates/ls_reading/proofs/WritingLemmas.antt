@@ -2,8 +2,6 @@
 use Rattle.std.proofs.Common.{◌≡◌, ℕ, Bool, List, [], ◌++◌, Option, None, Some, ap, ◌∙◌, append-nil}
 use Rattle.std.specs.Io.KnownBytes.{Appends, Keeps, append_known}
 use Rattle.ls_frame.specs.Picture.{Picture}
-use Rattle.ls_archive.specs.View.Indexing.{Completes as Indexes}
-use Rattle.ls_film.specs.View.Engine.{Completes}
 use Rattle.ls_reading.specs.View.Commands.{WritesTextOf, WritesIndexOf}
 
 -- the buffer was empty before, and was flushed in the end

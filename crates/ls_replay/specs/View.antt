@@ -1,1 +1,2 @@
 pub mod StepsReading
+pub mod Texts

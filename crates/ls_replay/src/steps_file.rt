@@ -1,7 +1,9 @@
 //! Reading a steps file.
 ghost use Rattle.std.specs.Prelude.{◌⊎◌, ℕ, IfOk, IfErr, ◌≡◌, ◌<◌, ◌≤◌, List, ◌∷◌, ◌==◌, not, length, take, drop, MatchResult, Ok, Err, bytes_eq};
 ghost use Rattle.std.specs.List.{prefix_len, slice_split};
+ghost use Rattle.ls_frame.specs.View.Devices.{count_after};
 ghost use Rattle.ls_replay.specs.View.StepsReading.{first_word, after_word, number_of, line_of, lines_of, lines_after, left_in, step_of, steps_of, IsReadFault};
+ghost use Rattle.ls_replay.specs.View.Texts.{most_bytes, GaveText, StopsText, has_read_failed};
 ghost use Rattle.ls_replay.specs.StepsFile.{is_blank, is_end, IsStepsFile, BreaksAt, IsFaultOf};
 
 use ls_frame::Feed;
@@ -35,7 +37,7 @@ impl From<AllocError> for StepsFault {
 const MOST_BYTES: usize = 16_777_216;
 
 /// The most bytes that are asked for at once.
-const PIECE: usize = 65_536;
+const CHUNK: usize = 65_536;
 
 /// Why the text of a steps file can't be read from its reader.
 #[derive(Clone, Copy, Debug, Drop, PartialEq, Eq, Error)]
@@ -61,19 +63,21 @@ enum Line {
 }
 
 /// Reads all bytes of a reader, up to its end. Fails with `TooLong` if there are more than 16,777,216, and has then
-/// read one byte more than that.
-pub fn read_text<R: Feed>(alloc: Global, reader: &mut R) -> Result<Vec<u8>, TextFault> {
+/// read one byte more than that; with `ReadFailed` if a read fails; or with `NoMemory`.
+pub fn read_text<R: Feed>(alloc: Global, reader: &mut R) -> Result<Vec<u8>, TextFault>
+    ensures text { IfOk result (λ text. GaveText (R.remaining reader.old) (R.remaining reader.new) text.items) }
+    ensures short { IfOk result (λ text. length text.items ≤ most_bytes) }
+    ensures stops { IfErr result (StopsText (R.remaining reader.old) (R.remaining reader.new)) }
+    ensures reads { R.failed_reads reader.new ≡ count_after (has_read_failed result) (R.failed_reads reader.old) }
+{
     let mut text = Vec::new(alloc);
-    let mut piece = [0u8; PIECE];
-    for _ in 0..=MOST_BYTES {
-        let room = PIECE.min((MOST_BYTES + 1).saturating_sub(text.len()));
-        if room == 0 {
-            break;
-        }
-        match reader.feed(&mut piece[..room]) {
+    let mut chunk = [0u8; CHUNK];
+    while text.len() <= MOST_BYTES {
+        let room = CHUNK.min(MOST_BYTES + 1 - text.len());
+        match reader.feed(&mut chunk[..room]) {
             Ok(0) => return Ok(text),
             Ok(taken) => {
-                if text.extend_from_slice(&piece[..taken]).is_err() {
+                if text.extend_from_slice(&chunk[..taken]).is_err() {
                     return Err(TextFault::NoMemory);
                 }
             }

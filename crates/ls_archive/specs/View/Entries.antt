@@ -1,5 +1,5 @@
 -- Which bytes have an entry, and what a reader gave in entries.
-use Rattle.std.specs.Prelude.{◌≡◌, ◌⊎◌, ℕ, ◌+◌, ◌<◌, ◌≤◌, List, [], ◌++◌, length, take, Option, Ok, Err}
+use Rattle.std.specs.Prelude.{◌≡◌, ◌⊎◌, ℕ, ◌+◌, ◌≤◌, List, [], ◌++◌, length, take, Option, Ok, Err}
 use Rattle.std.specs.List.{AllByRecursion}
 use Rattle.ls_frame.specs.Picture.{Picture}
 use Rattle.ls_frame.specs.View.Known.{Tells, Gave, known}

@@ -1,8 +1,7 @@
-use Rattle.std.proofs.Common.{◌≡◌, ◌+◌, ◌++◌, ◌∷◌, [], refl, sym, ap, subst, ◌∙◌, arith, rules}
+use Rattle.std.proofs.Common.{◌≡◌, ◌++◌, ◌∷◌, [], refl, sym, subst, arith, rules}
 use Rattle.std.proofs.lemmas.Result.{err_from_is_err_and}
 use Rattle.ls_film.specs.Film.{most_frames}
 use Rattle.ls_archive.specs.View.Batches.{line_of}
-use Rattle.ls_archive.specs.View.Places.{said}
 use Rattle.ls_archive.proofs.PlaceLemmas.{HasReadLines, read-none, read-more, read-end, read-stops, read-unheld, read-most}
 use Rattle.ls_archive.proofs.places.read_index.Goals as goal
 
