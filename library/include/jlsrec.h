@@ -164,6 +164,26 @@ uint32_t jlsrec_decode_16(const uint8_t *bytes, size_t count, uint16_t *samples,
  * JLSREC_TOO_LARGE: the first 4,294,967,295 bytes show neither EOI nor malformed markers. *extent is 0. */
 uint32_t jlsrec_extent(const uint8_t *bytes, size_t count, size_t *extent);
 
+/* Finds the sizes of the codestreams that stand one after the other at the front of `count` bytes, by their markers
+ * alone: each is what jlsrec_extent says at its place. It allocates nothing, and looks at no more bytes than it needs.
+ *
+ *   extents  the buffer for the sizes, of `room` of them
+ *   found    receives how many sizes there are
+ *   fault    receives the details of the fault
+ *
+ * The first *found of `extents` are the sizes, from the front on, of codestreams that each end with EOI; the others are
+ * unchanged. What follows these codestreams is the rest. The status says why there are no more sizes:
+ * JLSREC_OK: the rest is empty.
+ * JLSREC_NO_ROOM: it isn't, and *found is `room`. It wasn't looked at.
+ * JLSREC_TRUNCATED: it ends before EOI, and shows no malformed marker: with more bytes it may get there. It has fewer than
+ * 4,294,967,295 bytes.
+ * JLSREC_TOO_LARGE: its first 4,294,967,295 bytes show neither EOI nor a malformed marker.
+ * JLSREC_NO_SOI, JLSREC_BAD_SEGMENT, JLSREC_UNSUPPORTED_MARKER: this is the first fault of its markers, with its details
+ * in *fault (for other statuses *fault is all 0). Decoding may return another one, which is before it.
+ * No other status is returned. After each but NO_ROOM the rest begins with no codestream of a picture. */
+uint32_t jlsrec_extents(const uint8_t *bytes, size_t count, size_t *extents, size_t room, size_t *found,
+                        jlsrec_fault *fault);
+
 /* Writes the English text of a status: "bad code in component 1"; for a number that is no status, "unknown status".
  * `fault` is what the call wrote; for a call that has none, all 0.
  *

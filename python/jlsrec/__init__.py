@@ -28,7 +28,6 @@ import itertools
 import mmap
 import operator
 import os
-import re
 import sys
 import threading
 from collections.abc import Iterable, Iterator, Sequence
@@ -66,9 +65,8 @@ Name = Union[str, os.PathLike]
 # How much of a recording is read at a time to look for its codestreams, and of a codestream for its header.
 WINDOW = 1 << 18
 HEAD = 1 << 12
-EOI = b"\xff\xd9"
-# What isn't data of a scan, which has a bit 0 after each FF (T.87 C.3 and D.1).
-MARKER = re.compile(rb"\xff[\x80-\xff]")
+# Hardly any codestream has fewer bytes, and so many are looked for at once.
+LEAST, MANY = 32, 1 << 14
 
 BYTE, WORD = np.dtype(np.uint8), np.dtype(np.uint16)
 
@@ -290,28 +288,22 @@ class Recording(Sequence):
         number, start = len(found.starts), found.end
         if not window.start <= start <= window.end:
             window = _Window(start, b"")
-        ends, status, end = window.extents(start, most)
+        ends, status = window.extents(start, most)
         # What has no end within the window may have one behind it.
-        while not ends and end == window.end < file.size:
+        while not ends and status in (_library.OK, _library.TRUNCATED) and window.end < file.size:
             if start == window.start:
                 size = max(WINDOW, 2 * len(window.data))
             else:
                 size = max(WINDOW, (start - found.starts[max(number - 2, 0)]) * 5 // 4)
             window = _Window(start, file.read(start, min(start + size, file.size)))
-            ends, status, end = window.extents(start, most)
+            ends, status = window.extents(start, most)
         self._window = window
         if not ends:
-            if status == _library.NO_MEMORY:
-                _library.check(status)
-            details = _library.Fault()
-            data = window.data[start - window.start : end - window.start]
-            if status == _library.OK and not data.endswith(EOI):
-                status, details = _fault_of(data)
-            if status != _library.OK:
-                self._torn = end == file.size and _Window(0, data + b"\0").extent(0)[1] == len(data) + 1
-                self._fault = JlsrecError(status, details)
-                return
-            ends = [end]
+            self._torn, details = status == _library.TRUNCATED, _library.Fault()
+            if status != _library.TOO_LARGE:
+                status, details = _fault_of(window.data[start - window.start :])
+            self._fault = JlsrecError(status, details)
+            return
         # A signal's handler may have come here meanwhile, and found the same.
         found.starts[number : number + len(ends)] = ends
 
@@ -564,9 +556,7 @@ class _Place(NamedTuple):
         data = self.file.read(self.start, self.end)
         if self.line is not None:
             self.line.check_sum(data)
-            status, extent = _Window(0, data).extent(0)
-            _library.check(status if status == _library.NO_MEMORY else _library.OK)
-            if status != _library.OK or extent != len(data) or not data.endswith(EOI):
+            if _Window(0, data).extents(0, 1)[0] != [len(data)]:
                 raise self.line.wrong(f"no codestream is there of {len(data)} bytes at {self.start}")
             self.header(data)
         return data
@@ -647,59 +637,21 @@ class _Window:
         self._array = np.frombuffer(data, np.uint8) if data else np.empty(0, np.uint8)
         self._address = self._array.ctypes.data
 
-    def extent(self, start: int, most: int = sys.maxsize) -> tuple[int, int]:
-        """The library's status for the codestream that begins at start, and where it ends as far as these bytes, or the
-        first of them, show."""
-        count = ctypes.c_size_t()
-        place, left = self._address + start - self.start, min(self.end - start, most)
-        status = _library.library().jlsrec_extent(place, left, ctypes.byref(count))
-        return status, start + count.value
-
-    def extents(self, start: int, most: int) -> tuple[list[int], int, int]:
-        """Where the codestreams from start on end that these bytes show to end, at most so many; and, if there is none,
-        what extent says.
-
-        A call of the library for many codestreams would stand here.
-        """
-        ends: list[int] = []
-        status, end, likely = _library.OK, start, sys.maxsize
-        while len(ends) < most and end < self.end:
-            # The library copies what it is given: so no more than is likely to be needed.
-            status, end = self.extent(start, likely)
-            if end - start == likely:
-                status, end = self.extent(start)
-            if status != _library.OK or end == self.end or not self.data.endswith(EOI, 0, end - self.start):
-                break
-            ends.append(end)
-            likely = max(HEAD, 2 * (end - start))
-            ends += self._alike(start, end, most - len(ends))
-            start = end = ends[-1]
-        return ends, status, end
-
-    def _alike(self, start: int, end: int, most: int) -> list[int]:
-        """Where the codestreams end that follow one from start to end, and are like it; at most so many.
-
-        Only segments and markers decide where a codestream ends. So if the first marker after the header of its first
-        scan ends it, which is EOI, it also ends another one that begins with the same bytes up to there.
-        """
-        data, ends = self.data, []
-        first, after = start - self.start, end - self.start
-        try:
-            length = header_of(data[first : min(first + HEAD, after)])[1]
-        except IndexError:
-            return ends
-        headers = data[first : first + length]
-        begins, search = data.startswith, MARKER.search
-        found = search(data, first + length)
-        if found is None or found.end() != after:
-            return ends
-        while len(ends) < most and begins(headers, after):
-            found = search(data, after + length)
-            if found is None or found[0] != EOI or found.end() == len(data):
-                break
-            after = found.end()
-            ends.append(self.start + after)
-        return ends
+    def extents(self, start: int, most: int) -> tuple[list[int], int]:
+        """Where the codestreams from start on end whose EOI is in these bytes, at most so many; and why no further one was
+        looked for or found, as the library's status."""
+        left = self.end - start
+        sizes = np.empty(min(most, left // LEAST + 1, MANY), np.uintp)
+        count, fault = ctypes.c_size_t(), _library.Fault()
+        status = _library.library().jlsrec_extents(
+            self._address + start - self.start,
+            left,
+            sizes.ctypes.data,
+            sizes.size,
+            ctypes.byref(count),
+            ctypes.byref(fault),
+        )
+        return list(itertools.accumulate(sizes[: count.value].tolist(), initial=start))[1:], status
 
 
 def write(

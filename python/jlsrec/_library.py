@@ -17,6 +17,7 @@ BAD_SIZE = 4
 BAD_MAXVAL = 6
 BAD_PRESET = (10, 11, 12, 13)
 TRUNCATED = 20
+TOO_LARGE = 39
 # Of JPEG-LS that isn't decoded, and isn't damaged for that: UNSUPPORTED_MARKER to LSE_ID, and an LSE segment of a later scan.
 UNSUPPORTED = range(23, 33)
 
@@ -164,6 +165,7 @@ _CALLS = {
     "jlsrec_decode_16": (_number, _address, _size, _address, _size, _form, _count, _fault),
     "jlsrec_read_form": (_number, _address, _size, _form, _fault),
     "jlsrec_extent": (_number, _address, _size, _count),
+    "jlsrec_extents": (_number, _address, _size, _address, _size, _count, _fault),
     "jlsrec_text": (_size, _number, _fault, _address, _size),
     "jlsrec_version": (_number,),
 }

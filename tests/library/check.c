@@ -172,6 +172,78 @@ static jlsrec_form in_force(const jlsrec_form *asked) {
 static const jlsrec_form no_form;
 static const jlsrec_fault no_fault;
 
+/* ---- sizes of codestreams, by a walk of this test's own */
+
+/* The size of the codestream at the front, byte by byte (T.81 B.1.1 and B.2; T.87 C.1), or why its markers don't get to
+ * EOI. */
+static uint32_t walked(const uint8_t *bytes, size_t count, size_t *size, jlsrec_fault *fault) {
+    size_t at = 0;
+    uint8_t byte = 0;
+#define NEXT                                   \
+    do {                                       \
+        if (at == count) return JLSREC_TRUNCATED; \
+        byte = bytes[at++];                    \
+    } while (0)
+    NEXT;
+    if (byte != 0xFF) return JLSREC_NO_SOI;
+    NEXT;
+    if (byte != 0xD8) return JLSREC_NO_SOI;
+    for (;;) {
+        NEXT;
+        if (byte != 0xFF) return JLSREC_BAD_SEGMENT;
+        do NEXT;
+        while (byte == 0xFF);
+        if (byte == 0) return JLSREC_BAD_SEGMENT;
+        uint8_t code = byte;
+        if (code == 0xD9) {
+            *size = at;
+            return JLSREC_OK;
+        }
+        if (code != 0xDA && code != 0xF7 && code != 0xF8 && code != 0xFE && (code & 0xF0) != 0xE0) {
+            fault->marker = code;
+            return JLSREC_UNSUPPORTED_MARKER;
+        }
+        NEXT;
+        size_t length = byte;
+        NEXT;
+        length = length << 8 | byte;
+        if (length < 2) return JLSREC_BAD_SEGMENT;
+        for (length -= 2; length > 0; length--) NEXT;
+        while (code == 0xDA) {
+            NEXT;
+            if (byte != 0xFF) continue;
+            NEXT;
+            if (byte < 0x80) continue;
+            at -= 2;
+            break;
+        }
+    }
+#undef NEXT
+}
+
+/* The sizes of the codestreams at the front are those of the walk, and each is what jlsrec_extent says there. */
+static void sized(const char *name, const uint8_t *bytes, size_t size, size_t room) {
+    struct guarded out = guarded(room * sizeof(size_t));
+    jlsrec_fault fault, want_fault = {0, 0, 0};
+    memset(&fault, 0x55, sizeof fault);
+    size_t found = 12345, at = 0, want = 0;
+    uint32_t status = jlsrec_extents(bytes, size, (size_t *)out.bytes, room, &found, &fault), want_status = JLSREC_OK;
+    bool holds = true;
+    for (; at < size; want++) {
+        size_t one = 0, alone, given;
+        want_status = want == room ? JLSREC_NO_ROOM : walked(bytes + at, size - at, &one, &want_fault);
+        if (want_status != JLSREC_OK) break;
+        memcpy(&given, out.bytes + want * sizeof given, sizeof given);
+        holds = holds && given == one && jlsrec_extent(bytes + at, size - at, &alone) == JLSREC_OK && alone == one;
+        at += one;
+    }
+    holds = holds && status == want_status && found == want && !memcmp(&fault, &want_fault, sizeof fault) &&
+            kept_after(&out, want * sizeof(size_t));
+    count(holds, "%s: sizes in %zu bytes, room %zu: status %u in place of %u, %zu in place of %zu", name, size, room, status,
+          want_status, found, want);
+    free(out.all);
+}
+
 /* ---- in and out */
 
 /* Encoding into so much room does what is to be done. */
@@ -295,6 +367,8 @@ static void film(const char *name, const char *coded_name, char **presets) {
         release(&p);
     }
     count(from == coded.count, "%s: %zu bytes of %zu", name, from, coded.count);
+    for (size_t room = 0; room < 6; room++) sized(name, coded.bytes, coded.count, room);
+    for (size_t cut = 0; cut < coded.count; cut += 1 + coded.count / 300) sized(name, coded.bytes, cut, 9);
     free(images.bytes);
     free(coded.bytes);
 }
@@ -424,6 +498,7 @@ static void faulty(const char *folder, const char *name, const uint8_t *bytes, s
           "%s: %zu bytes by its extent", name, extent);
     count(jlsrec_decode_16(bytes, size, words, 64, &form, &used, &fault) == want && !memcmp(&fault, &details, sizeof fault),
           "%s: to 16 bits", name);
+    for (size_t room = 0; room < 3; room++) sized(name, bytes, size, room);
     char path[4096];
     snprintf(path, sizeof path, "%s/%s.jls", folder, name);
     write_file(path, bytes, size);
@@ -528,6 +603,14 @@ static void faults(const char *folder) {
     count(jlsrec_decode_8(two, 2 * sizeof black, sample, 1, &form, &used, &fault) == JLSREC_OK && sample[0] == 0 && sample[1] == 9 &&
               used == sizeof black, "two codestreams");
     count(jlsrec_extent(two, 2 * sizeof black, &extent) == JLSREC_OK && extent == sizeof black, "extent of two");
+    size_t extents[2], found;
+    count(jlsrec_extents(two, 2 * sizeof black, extents, 2, &found, &fault) == JLSREC_OK && found == 2 && extents[0] == sizeof black &&
+              extents[1] == sizeof black, "extents of two");
+    count(jlsrec_extents(two, 2 * sizeof black, extents, 1, &found, &fault) == JLSREC_NO_ROOM && found == 1, "room for one of two");
+    /* EOI alone is no codestream, nor is a comment's end before a byte D9 */
+    const uint8_t lone_end[] = {0xFF, 0xD9}, comment[] = {0xFF, 0xD8, 0xFF, 0xFE, 0, 3, 0xFF, 0xD9};
+    count(jlsrec_extents(lone_end, 2, extents, 2, &found, &fault) == JLSREC_NO_SOI && found == 0, "EOI alone");
+    count(jlsrec_extents(comment, 8, extents, 2, &found, &fault) == JLSREC_BAD_SEGMENT && found == 0, "FF of a comment, and D9");
     count(jlsrec_decode_8(two + used, sizeof black, sample, 1, &form, &used, &fault) == JLSREC_OK && sample[0] == 255, "the second");
     two[0] = 0;
     count(jlsrec_decode_8(two, 2 * sizeof black, sample, 1, &form, &used, &fault) == JLSREC_NO_SOI, "a second after a fault");
@@ -659,6 +742,10 @@ static void memory(const char *name) {
         count(status == JLSREC_OK ? extent == written : status == JLSREC_NO_MEMORY && extent == 0, "%s: request %zu of an extent", name, tries);
     }
     count(tries > 1, "%s: %zu requests of an extent", name, tries);
+    requests = 0;
+    jlsrec_fault fault;
+    count(jlsrec_extents(coded, written, &extent, 1, &used, &fault) == JLSREC_OK && used == 1 && extent == written && requests == 0,
+          "%s: sizes without memory", name);
     /* With a room of the bound, and that over 2^25, no memory is asked for but that of two rows; with less room there is. */
     if (room > (size_t)1 << 25) {
         asked_for = 0;
@@ -936,6 +1023,14 @@ static void mutate(const char *program, unsigned long seed, unsigned long tries,
             write_file(kept, c.bytes, c.count);
         }
         good += status == 0;
+        /* the changed codestream between two of the others */
+        const struct bytes *other = &wholes[(try + 1) % files];
+        struct bytes three = {allocated(2 * other->count + c.count), 2 * other->count + c.count};
+        memcpy(three.bytes, other->bytes, other->count);
+        memcpy(three.bytes + other->count, c.bytes, c.count);
+        memcpy(three.bytes + other->count + c.count, other->bytes, other->count);
+        sized(names[try % files], three.bytes, three.count, next_random(8));
+        free(three.bytes);
         count(holds, "%s, change %lu of seed %lu: %d %s and %d %.*s", names[try % files], try, seed, status, our_words, their_status,
               (int)their_words.count, (char *)their_words.bytes);
         free(ours.bytes);

@@ -2,6 +2,7 @@ mod BoundLemmas
 mod DecodingLemmas
 mod EncodingLemmas
 mod ExtentLemmas
+mod ExtentsLemmas
 mod NumberLemmas
 mod OneOpeningLemmas
 mod OpeningLemmas

@@ -1,5 +1,5 @@
 -- What the exported calls promise.
-use Rattle.std.specs.Prelude.{◌≡◌, ◌≢◌, ◌⊎◌, ◌↔◌, ℕ, ◌<◌, ◌≤◌, nat_le, List, [], ◌∷◌, ◌++◌, length, take, drop, Option, None, ◌*◌}
+use Rattle.std.specs.Prelude.{◌≡◌, ◌≢◌, ◌⊎◌, ◌↔◌, ℕ, ◌<◌, ◌≤◌, nat_le, List, [], ◌∷◌, ◌++◌, length, take, drop, Option, None, Ok, ◌-◌, ◌*◌}
 use Rattle.ls_frame.specs.Picture.{Picture, IsFrame, components}
 use Rattle.ls_stream.specs.declared.faults.StreamFault.{StreamFault}
 use Rattle.ls_stream.specs.declared.faults.StreamFault.TheVariants.{NoMemory}
@@ -7,7 +7,8 @@ use Rattle.ls_stream.specs.Grammar.{Spells, most_bytes}
 use Rattle.ls_stream.specs.Faults.{BeginsWithOpening}
 use Rattle.ls_stream.specs.View.Outlines.{IsFirstFault}
 use Rattle.ls_stream.specs.View.Openings.{Opened, SaysSo}
-use Rattle.ls_stream.specs.View.Extents.{IsNext, BeginsEndless}
+use Rattle.ls_stream.specs.View.Extents.{extent_at, IsNext, BeginsEndless}
+use Rattle.ls_inspect.specs.Ends.{HasNoEnd}
 use Rattle.ls_c.specs.declared.form.JlsrecForm.{JlsrecForm}
 use Rattle.ls_c.specs.declared.form.JlsrecFault.{JlsrecFault}
 use Rattle.ls_c.specs.declared.refusal.Refusal.{Refusal}
@@ -136,6 +137,29 @@ pub record IsExtent (bytes : List ℕ) (extent status : ℕ) : Type 0 where
   pub memory : status ≡ 1 → 0 < length bytes
   pub too_large : status ≡ 39 → BeginsEndless bytes
   pub none : status ≢ 0 → extent ≡ 0
+
+-- Codestreams stand one after the other at the front of the bytes, with these sizes, and the rest after them. Each size is what `IsExtent`
+-- says at its place, and there the markers lead from SOI to EOI.
+abbrev pub AreExtents : List ℕ → List ℕ → List ℕ → Type 0
+AreExtents bytes [] rest = bytes ≡ rest
+AreExtents bytes (size ∷ sizes) rest = IsExtent bytes size 0 × (extent_at (take size bytes) ≡ Ok []) × AreExtents (drop size bytes) sizes rest
+
+-- Why there is no further size, with the rest of the bytes and room for `left` more sizes: no bytes are left; bytes are left, but no room;
+-- or their markers don't lead to EOI.
+pub data IsStop (rest : List ℕ) (left : ℕ) (fault : JlsrecFault) (status : ℕ) : Type 0 where
+  at_end : status ≡ 0 → rest ≡ [] → fault ≡ no_details → IsStop rest left fault status
+  full : status ≡ 2 → rest ≢ [] → left ≡ 0 → fault ≡ no_details → IsStop rest left fault status
+  no_end : (first : StreamFault) → status ≡ fault_number first → rest ≢ [] → 0 < left → HasNoEnd rest first → fault ≡ details_of first → IsStop rest left fault status
+
+-- The sizes of the codestreams at the front of the bytes were found by their markers alone.
+pub record IsExtents (bytes old new : List ℕ) (found : ℕ) (fault : JlsrecFault) (status : ℕ) : Type 0 where
+  pub within : found ≤ length old
+  pub rest : List ℕ
+  pub sizes : AreExtents bytes (take found new) rest
+  pub kept : drop found new ≡ drop found old
+  pub stop : IsStop rest (length old - found) fault status
+  -- if the rest begins with a codestream of a frame, there was no room for its size
+  pub complete : (front more : List ℕ) (f : Picture) → rest ≡ front ++ more → Spells front f → status ≡ 2
 
 -- A buffer to which a text was written, cut to fit, with a 0 after it; the rest is unchanged.
 abbrev pub printed : List ℕ → List ℕ → List ℕ

@@ -1,16 +1,17 @@
-//! The length of the next codestream, and a bound on the length of one of a given form.
+//! The lengths of the next codestreams, and a bound on the length of one of a given form.
 ghost use Rattle.std.specs.Prelude.{◌≡◌, ◌^◌, ◌<◌, ◌≤◌, List, ℕ, length};
 ghost use Rattle.ls_frame.specs.Picture.{Picture, IsFrame};
 ghost use Rattle.ls_frame.specs.Parameters.{Parameters, IsLegal};
 ghost use Rattle.ls_stream.specs.Layout.{codestream};
-ghost use Rattle.ls_c.specs.Calls.{IsExtent};
+ghost use Rattle.ls_c.specs.Calls.{IsExtent, IsExtents};
 ghost use Rattle.ls_c.specs.Forms.{bound_of, IsOfForm};
 ghost use Rattle.ls_c.specs.Refusals.{status_of};
 
-use crate::form::JlsrecForm;
+use crate::form::{JlsrecFault, JlsrecForm, details_of, no_details};
 use crate::refusal::{NO_MEMORY, Refusal};
-use crate::request::picture_form;
+use crate::request::{after, picture_form};
 use ls_frame::{Buffered, Presets};
+use ls_inspect::extent_of;
 use ls_stream::{NextFault, StreamFault, next_stream};
 use std::alloc::Global;
 
@@ -36,6 +37,42 @@ pub fn next_extent(alloc: Global, bytes: &[u8], extent: &mut usize) -> Result<()
         Err(NextFault::TooLarge) => Err(Refusal::Stream(StreamFault::TooLarge)),
         Err(NextFault::Io) => unreachable!(),
     }
+}
+
+/// Sets the first `extents` to the numbers of bytes of the codestreams that stand one after the other at the front of
+/// `bytes`, found by their markers alone, and `found` to how many there are. Allocates nothing.
+///
+/// Succeeds if no bytes are left after them. Otherwise fails with `NoRoom` if there is no room for a further size; or
+/// the bytes that are left don't get to EOI: with the fault of `ls_inspect::extent_of`, whose details are in `fault`.
+pub fn next_extents(
+    bytes: &[u8],
+    extents: &mut [usize],
+    found: &mut usize,
+    fault: &mut JlsrecFault,
+) -> Result<(), Refusal>
+    ensures { IsExtents bytes.now extents.old extents.new found.new fault.new (status_of result) }
+{
+    *fault = no_details();
+    let mut rest = bytes;
+    let mut count = 0;
+    *found = 0;
+    while !rest.is_empty() {
+        if count >= extents.len() {
+            return Err(Refusal::NoRoom);
+        }
+        let size = match extent_of(rest) {
+            Ok(size) => size,
+            Err(first) => {
+                *fault = details_of(first);
+                return Err(Refusal::Stream(first));
+            }
+        };
+        extents[count] = size;
+        count += 1;
+        *found = count;
+        rest = after(rest, size);
+    }
+    Ok(())
 }
 
 /// Returns an upper bound on the bytes of a codestream of this form, with any coding parameters, which is less than

@@ -2,14 +2,14 @@
 //!
 //! Its interface is the exported functions. `library/include/jlsrec.h` declares them for C and says what each returns
 //! and leaves in memory; `specs/Calls.antt` says the same, call by call (`IsEncoding`, `IsDecoding`, `IsReading`,
-//! `IsExtent`), in terms of the forms and rows of `specs/Forms.antt`, the statuses of `specs/Refusals.antt` and the
+//! `IsExtent`, `IsExtents`), in terms of the forms and rows of `specs/Forms.antt`, the statuses of `specs/Refusals.antt` and the
 //! texts of `specs/Texts.antt`, except that NO_MEMORY is returned if an allocation fails, and only then. In C a slice
 //! is a pointer followed by a count, and `alloc` is no parameter: it stands for the malloc, realloc and free of the
 //! process.
 //!
 //! In reading order: `form` (the structs shared with C), `refusal` (why a call refuses, and the statuses), `request`
 //! (what is to be encoded, checked before anything is allocated), `coding` (encoding and decoding), `reading` (reading
-//! a form alone), `extent` (the length of the next codestream, and a bound on the length of one of a given form),
+//! a form alone), `extent` (the lengths of the next codestreams, and a bound on the length of one of a given form),
 //! `text` (the text of a status).
 #![tactic(auto)]
 
@@ -26,12 +26,12 @@ ghost use Rattle.std.specs.List.{AllByRecursion};
 ghost use Rattle.ls_frame.specs.Picture.{Picture, IsFrame};
 ghost use Rattle.ls_frame.specs.Parameters.{Parameters, IsLegal};
 ghost use Rattle.ls_stream.specs.Layout.{codestream};
-ghost use Rattle.ls_c.specs.Calls.{IsEncoding, IsDecoding, IsReading, IsExtent, printed};
+ghost use Rattle.ls_c.specs.Calls.{IsEncoding, IsDecoding, IsReading, IsExtent, IsExtents, printed};
 ghost use Rattle.ls_c.specs.Forms.{bound_of, plain_form, IsOfForm};
 ghost use Rattle.ls_c.specs.Texts.{text_of};
 
 use coding::{decode, encode};
-use extent::{bound, next_extent};
+use extent::{bound, next_extent, next_extents};
 use form::{JlsrecFault, JlsrecForm, plain_form};
 use ls_frame::Samples;
 use reading::read_form;
@@ -122,6 +122,21 @@ pub extern "C" fn jlsrec_extent(alloc: Global, bytes: &[u8], extent: &mut usize)
     ensures { IsExtent bytes.now extent.new result }
 {
     status_of(next_extent(alloc, bytes, extent))
+}
+
+/// Sets the first `extents` to the numbers of bytes of the codestreams that stand one after the other at the front of
+/// `bytes`, found by their markers alone; `found` to how many there are; and `fault` to the details of the fault at which
+/// they end. Returns the status, which is 0 if no bytes are left.
+#[unsafe(no_mangle)]
+pub extern "C" fn jlsrec_extents(
+    bytes: &[u8],
+    extents: &mut [usize],
+    found: &mut usize,
+    fault: &mut JlsrecFault,
+) -> u32
+    ensures { IsExtents bytes.now extents.old extents.new found.new fault.new result }
+{
+    status_of(next_extents(bytes, extents, found, fault))
 }
 
 /// Returns an upper bound on the bytes of a codestream of a picture of this form, with any coding parameters, which is

@@ -209,7 +209,7 @@ fn front<T>(items: &[T], count: usize) -> &[T]
 }
 
 /// Returns the items after the first `count`, if there are any.
-fn after<T>(items: &[T], count: usize) -> &[T]
+pub fn after<T>(items: &[T], count: usize) -> &[T]
     ensures { result.now ≡ drop count items.now }
 {
     if count < items.len() {

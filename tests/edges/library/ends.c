@@ -629,15 +629,15 @@ static void strides(void) {
 
 /* ---- decoding, and what else reads bytes */
 
-enum reading { DECODE_8, DECODE_16, READ_FORM, EXTENT };
+enum reading { DECODE_8, DECODE_16, READ_FORM, EXTENT, EXTENTS };
 
-static const char *const reading_names[] = {"decode_8", "decode_16", "read_form", "extent"};
+static const char *const reading_names[] = {"decode_8", "decode_16", "read_form", "extent", "extents"};
 
 struct answers {
     uint32_t status;
     jlsrec_form form;
     jlsrec_fault fault;
-    size_t used; /* or the extent */
+    size_t used; /* or the extent, or how many there are */
 };
 
 static __attribute__((noinline)) void read_bytes(enum reading reading, const void *bytes, size_t size, void *samples, size_t room, void *form, void *used, void *fault) {
@@ -646,6 +646,7 @@ static __attribute__((noinline)) void read_bytes(enum reading reading, const voi
     case DECODE_16: CALL(status, jlsrec_decode_16(bytes, size, samples, room, form, used, fault)); break;
     case READ_FORM: CALL(status, jlsrec_read_form(bytes, size, form, fault)); break;
     case EXTENT: CALL(status, jlsrec_extent(bytes, size, used)); break;
+    case EXTENTS: CALL(status, jlsrec_extents(bytes, size, samples, room, used, fault)); break;
     }
 }
 
@@ -656,8 +657,10 @@ static void reads_at(const char *name, enum reading reading, enum side side, con
     read_bytes(reading, bytes, size, samples, room, form.bytes, used.bytes, fault.bytes);
     bool holds = !caught && status == want->status && kept_after(&form, sizeof(jlsrec_form)) &&
                  kept_after(&fault, sizeof(jlsrec_fault)) && kept_after(&used, sizeof(size_t));
-    if (reading == EXTENT) holds = holds && number_at(&used) == want->used && kept_after(&form, 0) && kept_after(&fault, 0);
-    else holds = holds && !memcmp(form.bytes, &want->form, sizeof want->form) && !memcmp(fault.bytes, &want->fault, sizeof want->fault);
+    if (reading == EXTENT || reading == EXTENTS) holds = holds && kept_after(&form, 0);
+    else holds = holds && !memcmp(form.bytes, &want->form, sizeof want->form);
+    if (reading == EXTENT) holds = holds && kept_after(&fault, 0);
+    else holds = holds && !memcmp(fault.bytes, &want->fault, sizeof want->fault);
     if (reading == READ_FORM) holds = holds && kept_after(&used, 0);
     else holds = holds && number_at(&used) == want->used;
     count(holds, "%s of %s: %zu bytes, room %zu, side %d: %s %u in place of %u, used %zu in place of %zu", reading_names[reading],
@@ -671,7 +674,7 @@ static void reads_at(const char *name, enum reading reading, enum side side, con
 static void reads(const char *name, enum reading reading, const uint8_t *bytes, size_t size, size_t room, const struct answers *want,
                   const uint8_t *samples, size_t written) {
     for (int side = AT_END; side <= AT_FRONT; side++) {
-        size_t each = reading == DECODE_16 ? 2 : 1;
+        size_t each = reading == DECODE_16 ? 2 : reading == EXTENTS ? sizeof(size_t) : 1;
         struct area in = copy_of(bytes, size, side), out = area(room * each, side);
         reads_at(name, reading, side, in.bytes, size, out.bytes, room, want);
         bool holds = kept_after(&out, written * each);
@@ -719,6 +722,12 @@ static void small_counts(void) {
         good.used = 0;
         reads("Annex H.3", READ_FORM, bytes, size, 0, size < H3_HEADERS ? &cut : &good, NULL, 0);
         reads("Annex H.3", EXTENT, bytes, size, 0, &extent, NULL, 0);
+        for (size_t room = 0; room < 3; room++) {
+            size_t found = size >= sizeof h3 && room > 0, left = size - found * sizeof h3;
+            struct answers extents = no_answers(left == 0 ? JLSREC_OK : found == room ? JLSREC_NO_ROOM : found ? JLSREC_NO_SOI : JLSREC_TRUNCATED);
+            extents.used = found;
+            reads("Annex H.3", EXTENTS, bytes, size, room, &extents, NULL, found);
+        }
         struct answers full = {JLSREC_NO_ROOM, h3_form_in_force, no_fault, 0};
         for (size_t room = 0; room < 16; room++)
             for (enum reading r = DECODE_8; r <= DECODE_16; r++)
@@ -1195,6 +1204,15 @@ static void longest_codestreams(void) {
         reads_at(name, DECODE_8, AT_END, a.bytes, (size_t)END32 - 100, samples.bytes, 1, &cut);
         reads_at(name, READ_FORM, AT_END, a.bytes, (size_t)END31, NULL, 0, &cut);
         reads_at(name, READ_FORM, AT_END, a.bytes, (size_t)END31 + 1, NULL, 0, &cut);
+        /* by the markers alone: none of these takes memory */
+        struct area sizes = area(2 * sizeof(size_t), AT_END);
+        struct answers one = no_answers(JLSREC_OK);
+        one.used = 1;
+        reads_at(name, EXTENTS, AT_END, a.bytes, a.size, sizes.bytes, 2, whole ? &one : &large);
+        if (whole) count(number_at(&sizes) == END32, "%s: its size", name);
+        if (!whole) reads_at(name, EXTENTS, AT_END, a.bytes, END32, sizes.bytes, 2, &large);
+        reads_at(name, EXTENTS, AT_END, a.bytes, END32 - 1, sizes.bytes, 2, &cut);
+        release(&sizes);
         release(&a);
         release(&samples);
         release(&words);

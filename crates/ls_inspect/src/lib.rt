@@ -1,0 +1,11 @@
+//! Codestreams in memory, inspected without a reader: where one ends by its markers alone, and whether the data of its
+//! scans are exactly what encoding gives.
+//!
+//! In reading order: `markers` (what surrounds the data of scans, as far as markers tell), `extent` (the size of the
+//! codestream at the front of bytes).
+#![tactic(auto)]
+
+pub mod extent;
+mod markers;
+
+pub use extent::extent_of;
