@@ -64,7 +64,8 @@ def _run(words: argparse.Namespace) -> int:
     root = None if words.tree is None else os.path.abspath(os.fsencode(words.tree))
     out = os.path.abspath(os.fsencode(words.out))
     second = getattr(words, "second", None)
-    given = tree.Words(words.command, out, root, words.jobs, words.dask, second, words.report)
+    reread = getattr(words, "reread", False)
+    given = tree.Words(words.command, out, root, words.jobs, words.dask, second, words.report, reread)
     return {"compress": tree.compress, "restore": tree.restore, "verify": tree.verify}[words.command](given)
 
 
@@ -102,12 +103,16 @@ def _add_trees(commands: argparse._SubParsersAction) -> None:
         help="a tree of DICOM files to JPEG-LS, each compared with its source",
         description="Codes each DICOM file of TREE into a file of OUT, in JPEG-LS lossless, restores the source from "
         "it, and compares that with TREE's, byte for byte. A file that can't be coded is copied. TREE is only read. The "
-        "same command continues a run that was interrupted.",
+        "same command continues a run that was interrupted, and takes up what is new in TREE: a file that has the size, "
+        "the times and the inode that it had isn't read again.",
     )
     compress.add_argument("tree", metavar="TREE", help="a folder, which is only read")
     compress.add_argument("out", metavar="OUT", help="an empty folder, or that of an earlier run")
     compress.add_argument(
         "--second", choices=["gdcm", "dcmtk"], help="have this decoder read the values too, and compare"
+    )
+    compress.add_argument(
+        "--reread", action="store_true", help="read and compare all files again, also those that haven't changed"
     )
     restore = commands.add_parser(
         "restore",

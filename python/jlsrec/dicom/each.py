@@ -11,6 +11,7 @@ import errno
 import hashlib
 import os
 import stat
+import time
 from collections.abc import Callable, Iterable, Iterator, Sequence
 from dataclasses import dataclass
 from typing import Any, Optional, Union
@@ -48,20 +49,21 @@ def do_batch(job: Job, items: Sequence[Union[bytes, Line]]) -> list[Line]:
 def do_each(job: Job, items: Sequence[Union[bytes, Line]]) -> Iterator[Line]:
     """The same lines, each once its file is done."""
     sees_out = manifest.token_in(job.out) == job.token
+    now = manifest.time_in(job.out)
     for item in items:
-        yield _do(job, item) if sees_out else failed(item, "this worker doesn't see OUT and its manifest")
+        yield _do(job, item, now) if sees_out else failed(item, "this worker doesn't see OUT and its manifest")
 
 
-def _do(job: Job, item: Union[bytes, Line]) -> Line:
+def _do(job: Job, item: Union[bytes, Line], now: float) -> Line:
     try:
         if isinstance(item, bytes):
-            return {**manifest.named(item), **compress(job, item)}
+            return {**manifest.named(item), **compress(job, item, now)}
         line = restore(job, item) if job.command == "restore" else verify(job, item)
         return {**manifest.named(manifest.path_in(item)), **line}
     except (Changed, Damaged) as why:
         return failed(item, str(why))
     except Taken:
-        return failed(item, "there is another file of its name, which was left as it is")
+        return {**failed(item, "there is another file of its name, which was left as it is"), "is_taken": True}
     except OSError as error:
         line = failed(item, error.strerror or str(error))
         return {**line, "is_full": True} if error.errno in FULL else line
@@ -77,26 +79,36 @@ def failed(item: Union[bytes, Line], why: str) -> Line:
     return {**manifest.named(path), "state": "failed", "why": why}
 
 
-def compress(job: Job, path: bytes) -> Line:
-    """Compresses a file into OUT, or copies it there, and compares what then stands there with it, byte for byte."""
+def compress(job: Job, path: bytes, now: float) -> Line:
+    """Compresses a file into OUT, or copies it there, and compares what then stands there with it, byte for byte.
+
+    The line says what a later run tells the file by, if any change of it from now on would be seen by that.
+    """
     assert job.tree is not None
     place = os.path.join(job.out, path)
     make_folders(job.out, os.path.dirname(path))
     with Source(os.path.join(job.tree, path)) as source:
         _clear(place, source)
+        line = _coded_or_copied(source, place, job.second)
+        if is_settled(source.stat, now):
+            line.update(ctime_ns=source.stat.st_ctime_ns, inode=source.stat.st_ino)
+        return line
+
+
+def _coded_or_copied(source: Source, place: bytes, other: Optional[str]) -> Line:
+    try:
+        return _coded(source, place, other)
+    except Left as why:
+        text = str(why)
         try:
-            return _coded(source, place, job.second)
-        except Left as why:
-            text = str(why)
-            try:
-                return _put(
-                    source,
-                    place,
-                    lambda part: _copy(source, part),
-                    lambda path, written: copied_line(path, source, text),
-                )
-            except Taken:
-                raise Damaged(f"{text}; there is another file of its name, which was left as it is") from None
+            return _put(
+                source,
+                place,
+                lambda part: _copy(source, part),
+                lambda path, written: copied_line(path, source, text),
+            )
+        except Taken:
+            raise Damaged(f"{text}; there is another file of its name, which was left as it is") from None
 
 
 def _coded(source: Source, place: bytes, other: Optional[str]) -> Line:
@@ -121,7 +133,7 @@ def _coded(source: Source, place: bytes, other: Optional[str]) -> Line:
             raise Taken from None
         source.check()
         sync_folder(os.path.dirname(place))
-        return line
+        return {**line, "stood": True}
 
 
 def _clear(place: bytes, source: Source) -> None:
@@ -137,7 +149,7 @@ def _put(
     write: Callable[[Part], Optional[str]],
     check: Callable[[bytes, Optional[str]], Line],
 ) -> Line:
-    """Puts a file in its place once it is checked. What an earlier run put there before it ended is checked alike."""
+    """Puts a file in its place once it is checked. What an earlier run put there is checked alike, and its line says so."""
     if standing(place) is None:
         with Part(place) as part:
             written = write(part)
@@ -158,7 +170,7 @@ def _put(
         raise Taken from None
     source.check()
     sync_folder(os.path.dirname(place))
-    return line
+    return {**line, "stood": True}
 
 
 def _copy(source: Source, part: Part) -> None:
@@ -277,7 +289,8 @@ def verify(job: Job, line: Line) -> Line:
         made = opened.enter_context(Source(os.path.join(job.out, path)))
         source = None if job.tree is None else opened.enter_context(Source(os.path.join(job.tree, path)))
         files = [file for file in (made, source) if file is not None]
-        are_settled = all(is_settled(file.stat) for file in files)
+        now = time.time()
+        are_settled = all(is_settled(file.stat, now) for file in files)
         _compare_sums(made, source, line)
         found = {"state": "verified", "bytes_before": line["bytes_before"], "bytes_after": made.size}
         if are_settled and not any(file.has_changed() for file in files):

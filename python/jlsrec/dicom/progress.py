@@ -25,7 +25,7 @@ class Progress:
         self.reasons: collections.Counter[str] = collections.Counter()
         self.failures: list[dict[str, Any]] = []
         self.before = self.after = 0
-        # Files and bytes that needn't be done, since an earlier run did them.
+        # Files and bytes that needn't be done, since an earlier run did them, and they haven't changed since.
         self.skipped = self.skipped_bytes = 0
         # How many files and bytes there are, and whether that is all.
         self.files = self.bytes = 0
@@ -99,7 +99,7 @@ class Progress:
         """Says what came of the run."""
         parts = [f"{count:,} {state}" for state, count in sorted(self.states.items())]
         if self.skipped:
-            parts.append(f"{self.skipped:,} done before")
+            parts.append(f"{self.skipped:,} {'unchanged' if self.command == 'compress' else 'done before'}")
         sizes = f"; {_size(self.before)} to {_size(self.after)}" if self.after else ""
         self.say(f"{', '.join(parts) or 'no files'}{sizes}, in {_time(self.seconds)}")
         for why, count in self.reasons.most_common(MOST_REASONS):
@@ -112,6 +112,7 @@ class Progress:
             "finished": is_finished,
             "files": self.files,
             "skipped": self.skipped,
+            **({"unchanged": self.skipped} if self.command == "compress" else {}),
             **{state: self.states[state] for state in sorted(self.states)},
             "bytes_before": self.before,
             "bytes_after": self.after,

@@ -15,6 +15,7 @@ import queue
 import signal
 import stat
 import threading
+import time
 from collections.abc import Iterator, Sequence
 from dataclasses import dataclass
 from typing import Any, Callable, Optional, Union
@@ -22,7 +23,8 @@ from typing import Any, Callable, Optional, Union
 from .._files import sync_folder
 from . import Refused, second
 from .each import Job, Line, failed
-from .manifest import GONE, KEPT, NAME, Manifest, named, path_in
+from .known import Kept, Known
+from .manifest import GONE, KEPT, NAME, Manifest, named, path_in, row_of
 from .places import PART, make_folders, shown, standing
 from .progress import Progress
 from .verified import Verified
@@ -32,6 +34,8 @@ from .work import Dask, Lost, Processes, Workers, run
 BATCH_FILES, DASK_FILES = 16, 64
 BATCH_BYTES = 1 << 26
 INTERRUPTED = 130
+# For how many seconds files may be looked at before what is on its way is seen to.
+EVERY = 0.1
 
 
 @dataclass(frozen=True)
@@ -45,6 +49,7 @@ class Words:
     dask: Optional[str]
     second: Optional[str]
     report: Optional[str]
+    reread: bool = False
 
 
 @dataclass(frozen=True)
@@ -163,6 +168,7 @@ class Run:
         # Why it was stopped, and whether it was by a signal.
         self.why = ""
         self.status = 0
+        self._due = time.monotonic() + EVERY
 
     def stop(self, why: str, status: int = 1) -> None:
         """Has no further file be begun."""
@@ -209,12 +215,14 @@ class Run:
         def counted(lines: list[Line]) -> None:
             if any([line.pop("is_full", False) for line in lines]):
                 self.stop("there is no more space")
+            # What an earlier run put there wasn't made by this one.
+            stood = [line.pop("stood", False) for line in lines]
             try:
                 done(lines)
             except OSError as error:
                 self.stop(f"{error.strerror or error}: no line can be added to the manifest")
-            for line in lines:
-                self.count(line)
+            for line, has_stood in zip(lines, stood):
+                self.count({**line, "state": "compared"} if has_stood else line)
 
         return counted
 
@@ -225,6 +233,13 @@ class Run:
     def _look(self) -> bool:
         self.progress.tell()
         return self.is_stopped
+
+    def is_due(self) -> bool:
+        """Whether it is time to see to what is on its way, also if there is nothing to be done with many files."""
+        now = time.monotonic()
+        is_due = now > self._due
+        self._due = now + EVERY if is_due else self._due
+        return is_due
 
     @contextlib.contextmanager
     def _until_signalled(self) -> Iterator[None]:
@@ -266,7 +281,7 @@ def compress(words: Words) -> int:
         job = Job("compress", words.tree, words.out, str(manifest.token), words.second)
         listing = Listing(words.tree, words.out, going.progress)
         listing.start()
-        going.work(job, _to_compress(listing, known, going, manifest), manifest.add)
+        going.work(job, _to_compress(listing, known, going, manifest), lambda lines: _note(lines, known, manifest))
         if not going.is_stopped:
             _forget(known, going, manifest)
         # Workers that died meanwhile leave some too.
@@ -278,26 +293,12 @@ def compress(words: Words) -> int:
         return going.end()
 
 
-class Known:
-    """What the manifest says already: of a file its bytes and time before and its bytes after; else its line."""
-
-    def __init__(self, manifest: Manifest, second: Optional[str]) -> None:
-        self.files: dict[bytes, tuple[int, int, int]] = {}
-        # The files that were compressed and weren't read by the second decoder that is asked for.
-        self.unread: set[bytes] = set()
-        self.others: dict[bytes, Line] = {}
-        # What failed, and wasn't met again in this run.
-        self.failed: set[bytes] = set()
-        for line in manifest.lines():
-            path = path_in(line)
-            if line["state"] in KEPT:
-                self.files[path] = line["bytes_before"], line["mtime_ns"], line["bytes_after"]
-                is_unread = line["state"] == "compressed" and second not in (None, line.get("second"))
-                (self.unread.add if is_unread else self.unread.discard)(path)
-            elif line["state"] not in ("failed", GONE):
-                self.others[path] = line
-            (self.failed.add if line["state"] == "failed" else self.failed.discard)(path)
-        self.failed.difference_update(self.files)
+def _note(lines: list[Line], known: Known, manifest: Manifest) -> None:
+    """Adds the lines that the manifest doesn't have already."""
+    for line in lines:
+        if line.pop("is_taken", False) and path_in(line) in known:
+            line["why"] = "it isn't what was compressed, or OUT's file isn't any more; both were left as they are"
+    manifest.add([line for line in lines if path_in(line) not in known or not known.has(path_in(line), row_of(line))])
 
 
 def _to_compress(
@@ -306,8 +307,9 @@ def _to_compress(
     """The files that are to be compressed. What else there is gets its line here."""
     out = going.words.out
     for entry in listing.entries():
-        if entry is None:
+        if entry is None or going.is_due():
             yield None
+        if entry is None:
             continue
         known.failed.discard(entry.path)
         if entry.is_folder:
@@ -321,16 +323,16 @@ def _to_compress(
                 _record(line, going, manifest)
         else:
             assert entry.stat is not None
-            there, why = None, ""
-            before, time, after = known.files.get(entry.path, (0, 0, 0))
+            kept, there, why = known.get(entry.path), None, ""
             try:
-                there = standing(os.path.join(out, entry.path)) if entry.path in known.files else None
-                why = "" if there is None else _difference(entry.stat, there, before, after)
+                there = None if kept is None else standing(os.path.join(out, entry.path))
+                why = "" if kept is None or there is None else _difference(entry.stat, there, kept)
             except OSError as error:
                 why = error.strerror or str(error)
+            is_same = kept is not None and there is not None and kept.is_of(entry.stat)
             if why:
                 _record(failed(entry.path, why), going, manifest)
-            elif there is not None and entry.stat.st_mtime_ns == time and entry.path not in known.unread:
+            elif is_same and not going.words.reread and entry.path not in known.unread:
                 going.progress.skip(entry.stat.st_size)
             else:
                 yield entry.path, entry.stat.st_size
@@ -353,11 +355,11 @@ def _forget(known: Known, going: Run, manifest: Manifest) -> None:
         going.count(line)
 
 
-def _difference(source: os.stat_result, there: os.stat_result, before: int, after: int) -> str:
+def _difference(source: os.stat_result, there: os.stat_result, kept: Kept) -> str:
     """Why a file that has a line isn't what that says, here or in OUT; neither is touched then."""
-    if source.st_size != before:
+    if source.st_size != kept.before:
         return "it isn't what was compressed; OUT has it as it was then, and was left so"
-    if not stat.S_ISREG(there.st_mode) or there.st_size != after:
+    if not stat.S_ISREG(there.st_mode) or there.st_size != kept.after:
         return "OUT has another file of its name than the manifest says, which was left as it is"
     return ""
 
@@ -501,12 +503,14 @@ def verify(words: Words) -> int:
 
 def _to_verify(
     manifest: Manifest, last: dict[bytes, int], going: Run, verified: Verified
-) -> Iterator[tuple[Line, int]]:
-    """The lines of files that are to be looked at."""
+) -> Iterator[Optional[tuple[Line, int]]]:
+    """The lines of files that are to be looked at; None where it is time to see to those that are on their way."""
     going.progress.files, going.progress.is_counted = len(last), True
     going.progress.bytes = sum(line.get("bytes_before", 0) for line in _lines_that_hold(manifest, last))
     for line in _lines_that_hold(manifest, last):
         path = path_in(line)
+        if going.is_due():
+            yield None
         if line["state"] in KEPT:
             if verified.has(line):
                 going.progress.skip(line["bytes_before"])
