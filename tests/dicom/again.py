@@ -126,7 +126,10 @@ every = {*names, "text"}
 time.sleep(SETTLED)
 done = run("compress", "tree", "out")
 case(f"the first run: {said(done)}", done.returncode == 0 and opened() == every)
-case("each line says what its file is told apart by", all({"ctime_ns", "inode"} <= {*line} for line in rows() if "why" not in line and "to" not in line))
+case(
+    "each line says what its file is told apart by",
+    all({"ctime_ns", "inode"} <= {*line} for line in rows() if "why" not in line and "to" not in line),
+)
 stood = Path("out/manifest.jsonl").read_bytes()
 done = run("compress", "tree", "out", "--report", "report.json")
 case(f"the second run: {said(done)}", done.returncode == 0 and counts(done) == {"unchanged": FILES + 2})
@@ -141,7 +144,9 @@ for turn in ("once", "twice"):
     case(f"--reread, {turn}: no line says the same again", Path("out/manifest.jsonl").read_bytes() == stood)
 Path("tree/new.dcm").write_bytes(slice_of())
 done = run("compress", "tree", "out")
-case(f"a file more: {said(done)}", counts(done) == {"compressed": 1, "unchanged": FILES + 2} and opened() == {"new.dcm"})
+case(
+    f"a file more: {said(done)}", counts(done) == {"compressed": 1, "unchanged": FILES + 2} and opened() == {"new.dcm"}
+)
 case("and verified", run("verify", "out", "tree").returncode == 0)
 
 # ---- what has changed is read, whatever its size and its time say
@@ -163,16 +168,28 @@ os.chmod("tree/05.dcm", 0o600)
 time.sleep(SETTLED)
 done = run("compress", "tree", "out")
 case(f"changes: {said(done)}", set(failures(done)) == {"00.dcm", "01.dcm", "02.dcm"} and done.returncode == 1)
-case(f"changes: it is said what is wrong: {said(done)}", all("isn't what was compressed" in why for why in failures(done).values()))
+case(
+    f"changes: it is said what is wrong: {said(done)}",
+    all("isn't what was compressed" in why for why in failures(done).values()),
+)
 case(f"changes: only these are read: {opened()}", opened() == {f"0{number}.dcm" for number in (0, 1, 2, 4, 5)})
 case("changes: OUT is as it was", before == {name: Path("out", name).read_bytes() for name in names})
 done = run("compress", "tree", "out")
-case(f"changes, the next night: {said(done)}", set(failures(done)) == {"00.dcm", "01.dcm", "02.dcm"} and done.returncode == 1)
-case(f"changes, the next night: other times alone are known: {opened()}", opened() == {f"0{number}.dcm" for number in range(3)})
+case(
+    f"changes, the next night: {said(done)}",
+    set(failures(done)) == {"00.dcm", "01.dcm", "02.dcm"} and done.returncode == 1,
+)
+case(
+    f"changes, the next night: other times alone are known: {opened()}",
+    opened() == {f"0{number}.dcm" for number in range(3)},
+)
 for name in ("00.dcm", "01.dcm", "02.dcm"):
     os.unlink(f"out/{name}")
 done = run("compress", "tree", "out")
-case(f"changes, made anew: {said(done)}", done.returncode == 0 and counts(done) == {"compressed": 3, "unchanged": FILES - 3})
+case(
+    f"changes, made anew: {said(done)}",
+    done.returncode == 0 and counts(done) == {"compressed": 3, "unchanged": FILES - 3},
+)
 case("changes, made anew: verified", run("verify", "out", "tree").returncode == 0)
 
 # Folders that change places: their files have the sizes and the times that stood in each other's place.
@@ -188,7 +205,9 @@ os.rename("tree/one", "tree/aside")
 os.rename("tree/other", "tree/one")
 os.rename("tree/aside", "tree/other")
 done = run("compress", "tree", "out")
-case(f"folders change places: {said(done)}", set(failures(done)) == {"one/a.dcm", "other/a.dcm"} and done.returncode == 1)
+case(
+    f"folders change places: {said(done)}", set(failures(done)) == {"one/a.dcm", "other/a.dcm"} and done.returncode == 1
+)
 
 # ---- what OUT hasn't, or has otherwise
 
@@ -205,7 +224,10 @@ os.symlink("../aside", "out/04.dcm")
 os.unlink("out/05.dcm")
 os.mkdir("out/05.dcm")
 done = run("compress", "tree", "out")
-case(f"OUT: {said(done)}", set(failures(done)) == {"01.dcm", "02.dcm", "03.dcm", "04.dcm", "05.dcm"} and done.returncode == 1)
+case(
+    f"OUT: {said(done)}",
+    set(failures(done)) == {"01.dcm", "02.dcm", "03.dcm", "04.dcm", "05.dcm"} and done.returncode == 1,
+)
 case("OUT: what is gone is made again", counts(done).get("compressed") == 1 and opened() == {"00.dcm"})
 shutil.rmtree("out/05.dcm")
 for name in ("01.dcm", "02.dcm", "03.dcm", "04.dcm"):
@@ -233,7 +255,10 @@ case(f"an earlier manifest: but once: {said(done)}", counts(done) == {"unchanged
 for odd in ({"ctime_ns": [None, {}]}, {"inode": -1}, {"mtime_ns": 1 << 200}):
     rewrite(lambda line: {**line, **odd})
     done = run("compress", "tree", "out")
-    case(f"a line with {odd}: {said(done)}", counts(done) == {"compared": FILES - 1, "failed": 1} and "Traceback" not in said(done))
+    case(
+        f"a line with {odd}: {said(done)}",
+        counts(done) == {"compared": FILES - 1, "failed": 1} and "Traceback" not in said(done),
+    )
 for odd in ({"bytes_before": -1}, {"bytes_after": 1 << 64}):
     rewrite(lambda line: {**line, **odd})
     done = run("compress", "tree", "out")

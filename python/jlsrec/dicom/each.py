@@ -30,6 +30,14 @@ Line = dict[str, Any]
 FULL = {errno.ENOSPC, errno.EDQUOT}
 
 
+# What has happened to a file of OUT that isn't what the manifest says.
+DAMAGED = "OUT's file was damaged or replaced"
+
+
+class Differs(Damaged):
+    """Why bytes aren't those of a file."""
+
+
 @dataclass(frozen=True)
 class Job:
     """What a run does: with which trees, and by what manifest it knows that it sees OUT."""
@@ -149,7 +157,7 @@ def _put(
     write: Callable[[Part], Optional[str]],
     check: Callable[[bytes, Optional[str]], Line],
 ) -> Line:
-    """Puts a file in its place once it is checked. What an earlier run put there is checked alike, and its line says so."""
+    """Puts a file in its place once it is checked. What an earlier run put there is checked alike; the line says so."""
     if standing(place) is None:
         with Part(place) as part:
             written = write(part)
@@ -222,15 +230,15 @@ def _sums(source: Source, made: Source, sha256: str) -> Line:
 
 
 def compared(chunks: Iterable[bytes], source: Source) -> str:
-    """The SHA-256 of bytes that were compared with a file's. Raises Damaged if they differ."""
+    """The SHA-256 of bytes that were compared with a file's. Raises Differs if they differ."""
     sum, at = hashlib.sha256(), 0
     for chunk in chunks:
         if at + len(chunk) > source.size or source.read(at, len(chunk)) != chunk:
-            raise Damaged("it has other bytes or values than its source")
+            raise Differs("it has other bytes or values than its source")
         sum.update(chunk)
         at += len(chunk)
     if at != source.size:
-        raise Damaged("it has fewer bytes than its source")
+        raise Differs("it has fewer bytes than its source")
     return sum.hexdigest()
 
 
@@ -246,7 +254,7 @@ def restore(job: Job, line: Line) -> Line:
     assert job.tree is not None
     path = manifest.path_in(line)
     place = os.path.join(job.tree, path)
-    with Source(os.path.join(job.out, path)) as made:
+    with _opened(job.out, path, "OUT") as made:
         there = standing(place)
         if there is not None:
             _same_sum(place, line["sha256_before"])
@@ -258,11 +266,24 @@ def restore(job: Job, line: Line) -> Line:
                 sum.update(chunk)
                 part.write(chunk)
             if sum.hexdigest() != line["sha256_before"]:
-                raise Damaged("what comes back has another sum than the manifest says")
+                raise Damaged(f"what comes back has another sum than the manifest says: {DAMAGED}")
             part.sync(made.stat)
             _same_sum(part.path, line["sha256_before"])
-            part.settle()
+            try:
+                part.settle()
+            except Taken:
+                # Another program may have put the same file there meanwhile.
+                _same_sum(place, line["sha256_before"])
+                return {"state": "there", "bytes_before": made.size, "bytes_after": line["bytes_before"]}
         return {"state": "restored", "bytes_before": made.size, "bytes_after": line["bytes_before"]}
+
+
+def _opened(root: bytes, path: bytes, name: str) -> Source:
+    """A file of one side. Raises Damaged if it isn't there."""
+    try:
+        return Source(os.path.join(root, path))
+    except FileNotFoundError:
+        raise Damaged(f"{name} hasn't it any more") from None
 
 
 def _same_sum(path: bytes, sha256: str) -> None:
@@ -286,8 +307,8 @@ def verify(job: Job, line: Line) -> Line:
     """
     path = manifest.path_in(line)
     with contextlib.ExitStack() as opened:
-        made = opened.enter_context(Source(os.path.join(job.out, path)))
-        source = None if job.tree is None else opened.enter_context(Source(os.path.join(job.tree, path)))
+        made = opened.enter_context(_opened(job.out, path, "OUT"))
+        source = None if job.tree is None else opened.enter_context(_opened(job.tree, path, "the tree"))
         files = [file for file in (made, source) if file is not None]
         now = time.time()
         are_settled = all(is_settled(file.stat, now) for file in files)
@@ -302,7 +323,7 @@ def _compare_sums(made: Source, source: Optional[Source], line: Line) -> None:
     """Raises Damaged if a file of OUT, its values or its source aren't what the manifest or the tree's file says."""
     values = hashlib.sha256()
     if made.size != line["bytes_after"] or sum_of(made) != line["sha256"]:
-        raise Damaged("its sum isn't that of the manifest")
+        raise Damaged(f"it hasn't the sum that the manifest says: {DAMAGED}")
     chunks = _source_chunks(made, line, lambda array: values.update(array))
     if source is None:
         sum = hashlib.sha256()
@@ -310,7 +331,10 @@ def _compare_sums(made: Source, source: Optional[Source], line: Line) -> None:
             sum.update(chunk)
         before = sum.hexdigest()
     else:
-        before = compared(chunks, source)
+        try:
+            before = compared(chunks, source)
+        except Differs:
+            raise Damaged("the tree's file isn't what was compressed; OUT has it as it was then") from None
     if before != line["sha256_before"]:
         raise Damaged("its source's sum isn't that of the manifest")
     if line["state"] == "compressed" and values.hexdigest() != line["sha256_values"]:

@@ -37,6 +37,8 @@ class Known:
         # The files that were compressed and weren't read by the second decoder that is asked for.
         self.unread: set[bytes] = set()
         self.others: dict[bytes, dict] = {}
+        # How many of the files the tree has.
+        self.met = 0
         # What failed, and wasn't met again in this run.
         self.failed: set[bytes] = set()
         for row, line in manifest.rows():
@@ -49,6 +51,9 @@ class Known:
                 self.others[path] = line
             (self.failed.add if line["state"] == "failed" else self.failed.discard)(path)
         self.failed.difference_update(self._files)
+
+    def __len__(self) -> int:
+        return len(self._files)
 
     def __contains__(self, path: bytes) -> bool:
         return path in self._files

@@ -79,6 +79,16 @@ def token_in(out: bytes) -> Optional[str]:
         return None
 
 
+def _lacking(out: bytes) -> str:
+    """What is said of a folder without a manifest."""
+    above = os.path.dirname(out)
+    while above != os.path.dirname(above):
+        if token_in(above) is not None:
+            return f"there is no manifest; {shown(above)} has one, and is the OUT of this folder"
+        above = os.path.dirname(above)
+    return "there is no manifest: no tree was compressed into it"
+
+
 def time_in(out: bytes) -> float:
     """The time, by this machine's clock or that of OUT's file system, whichever is behind.
 
@@ -119,7 +129,7 @@ class Manifest:
             self.number = os.open(self.path, flags | os.O_CLOEXEC | os.O_NOFOLLOW)
         except FileNotFoundError:
             if not writes:
-                raise Refused(f"{shown(out)}: there is no manifest") from None
+                raise Refused(f"{shown(out)}: {_lacking(out)}") from None
             self.is_new = True
             if set(os.listdir(out)) - {b"lost+found"}:
                 raise Refused(f"{shown(out)}: it has files, and no manifest: compress wants an empty folder") from None

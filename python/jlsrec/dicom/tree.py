@@ -9,6 +9,7 @@ from __future__ import annotations
 
 import contextlib
 import errno
+import fcntl
 import itertools
 import os
 import queue
@@ -34,6 +35,7 @@ from .work import Dask, Lost, Processes, Workers, run
 BATCH_FILES, DASK_FILES = 16, 64
 BATCH_BYTES = 1 << 26
 INTERRUPTED = 130
+UNNAMED = "the manifest doesn't name it; if a run of compress was ended, the same command takes it up"
 # For how many seconds files may be looked at before what is on its way is seen to.
 EVERY = 0.1
 
@@ -50,6 +52,8 @@ class Words:
     second: Optional[str]
     report: Optional[str]
     reread: bool = False
+    # What is to be restored, by its names below OUT; all if none are named.
+    parts: Sequence[bytes] = ()
 
 
 @dataclass(frozen=True)
@@ -221,6 +225,7 @@ class Run:
                 done(lines)
             except OSError as error:
                 self.stop(f"{error.strerror or error}: no line can be added to the manifest")
+                self.progress.unnoted += sum(line["state"] in KEPT for line in lines)
             for line, has_stood in zip(lines, stood):
                 self.count({**line, "state": "compared"} if has_stood else line)
 
@@ -284,6 +289,7 @@ def compress(words: Words) -> int:
         going.work(job, _to_compress(listing, known, going, manifest), lambda lines: _note(lines, known, manifest))
         if not going.is_stopped:
             _forget(known, going, manifest)
+            going.progress.only_in_out = len(known) - known.met
         # Workers that died meanwhile leave some too.
         _remove_parts(words.out)
         try:
@@ -324,6 +330,7 @@ def _to_compress(
         else:
             assert entry.stat is not None
             kept, there, why = known.get(entry.path), None, ""
+            known.met += kept is not None
             try:
                 there = None if kept is None else standing(os.path.join(out, entry.path))
                 why = "" if kept is None or there is None else _difference(entry.stat, there, kept)
@@ -437,15 +444,16 @@ def restore(words: Words) -> int:
     assert words.tree is not None
     if os.path.lexists(words.tree):
         _check_apart(words.tree, words.out)
-    with contextlib.closing(Manifest(words.out, False)) as manifest:
+    with contextlib.closing(Manifest(words.out, False)) as manifest, contextlib.ExitStack() as held:
+        going = Run(words)
+        last = _within(manifest.last(), words)
         _make_out(words.tree)
         _check_apart(words.tree, words.out)
-        going = Run(words)
-        last = manifest.last()
+        held.enter_context(_alone(words.tree))
         _remove_parts(words.tree)
         for entry in each_below(words.out):
-            if entry.is_dir(follow_symlinks=False):
-                path = os.path.relpath(entry.path, words.out)
+            path = os.path.relpath(entry.path, words.out)
+            if entry.is_dir(follow_symlinks=False) and _is_within(path, words.parts):
                 try:
                     make_folders(words.tree, path)
                 except OSError as error:
@@ -457,6 +465,39 @@ def restore(words: Words) -> int:
         for line in [] if going.is_stopped else links:
             going.count(_linked(words.tree, path_in(line), bytes.fromhex(line["to_hex"])))
         return going.end()
+
+
+def _within(last: dict[bytes, int], words: Words) -> dict[bytes, int]:
+    """The files of the parts that are to be restored. Raises Refused for a part that OUT doesn't have."""
+    if not words.parts:
+        return last
+    kept = {path: number for path, number in last.items() if _is_within(path, words.parts)}
+    folders = {os.path.relpath(each.path, words.out) for each in each_below(words.out) if each.is_dir()}
+    for part in words.parts:
+        if part not in folders and not any(_is_within(path, [part]) for path in kept):
+            raise Refused(f"{shown(part)!r}: the manifest names nothing so; a part is named as it is below OUT")
+    return kept
+
+
+def _is_within(path: bytes, parts: Sequence[bytes]) -> bool:
+    """Whether a name is that of a part, or below it. Without parts each is."""
+    return not parts or any(path == part or path.startswith(part + b"/") for part in parts)
+
+
+@contextlib.contextmanager
+def _alone(folder: bytes) -> Iterator[None]:
+    """Locks a folder, where its file system can. Raises Refused if another run has."""
+    number = os.open(folder, os.O_RDONLY | os.O_DIRECTORY | os.O_CLOEXEC)
+    try:
+        try:
+            fcntl.flock(number, fcntl.LOCK_EX | fcntl.LOCK_NB)
+        except BlockingIOError:
+            raise Refused(f"{shown(folder)}: another run is at work on it") from None
+        except OSError:
+            pass
+        yield
+    finally:
+        os.close(number)
 
 
 def _lines_that_hold(manifest: Manifest, last: dict[bytes, int]) -> Iterator[Line]:
@@ -494,7 +535,7 @@ def verify(words: Words) -> int:
             verified.begin(verified.name in last)
             going.work(job, _to_verify(manifest, last, going, verified), verified.add)
             if not going.is_stopped:
-                _find_others(words.out, last, going, "the manifest doesn't name it", (NAME, verified.name))
+                _find_others(words.out, last, going, UNNAMED, (NAME, verified.name))
                 if words.tree is not None:
                     _find_others(words.tree, last, going, "OUT doesn't have it")
                 verified.remove()
