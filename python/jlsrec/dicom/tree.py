@@ -183,9 +183,7 @@ class Run:
         """Those that the words ask for."""
         if self.words.dask is None:
             return Processes(self.words.jobs)
-        workers = Dask(self.words.dask)
-        self.progress.say(f"the scheduler's workers have {workers.threads()} threads")
-        return workers
+        return Dask(self.words.dask, self.progress.say)
 
     def batched(self, items: Iterator[Optional[tuple[Any, int]]]) -> Iterator[Sequence[Any]]:
         """Items with their bytes in batches; an empty one where there is none yet."""
