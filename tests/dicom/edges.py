@@ -79,6 +79,7 @@ fresh("one/a.dcm", "one/b/c.dcm", "one.dcm", "other/d.dcm", "onemore/e.dcm")
 os.makedirs("tree/one/empty")
 os.symlink("a.dcm", "tree/one/link")
 os.symlink("d.dcm", "tree/other/link")
+os.symlink("one", "tree/linked")
 case("parts: compressed", run("compress", "tree", "out").returncode == 0)
 whole = below("tree")
 for parts, wanted in (
@@ -98,7 +99,11 @@ for parts, wanted in (
     asked = {part.strip("./").partition("/")[0] for part in parts if part != "one.dcm"} or {"one", "other", "onemore"}
     case(f"parts {parts}: no other folder", folders == asked)
 shutil.rmtree("back")
-for part in ("on", "out/one", "../tree", "/one", "one/a.dcm/x", "", ".", ".."):
+done = run("restore", "out", "back", "linked")
+case(f"a link to a folder: {said(done)}", done.returncode == 0 and os.readlink("back/linked") == "one")
+case("a link to a folder: nothing else", os.listdir("back") == ["linked"])
+shutil.rmtree("back")
+for part in ("on", "linked/b", "out/one", "../tree", "/one", "one/a.dcm/x", "", ".", ".."):
     done = run("restore", "out", "back", "one", part)
     is_told = "the manifest names nothing so" in said(done)
     case(f"a part that isn't there, {part!r}: {said(done)}", done.returncode == 1 and is_told)

@@ -252,9 +252,11 @@ GONE = """
 import os
 from jlsrec.dicom import tree
 real = tree._to_compress
-def to_compress(*words):
+def to_compress(listing, *words):
+    # Once it was found.
+    listing.join()
     os.unlink("tree/gone.dcm")
-    yield from real(*words)
+    yield from real(listing, *words)
 tree._to_compress = to_compress
 real_walk = tree.os.scandir
 class Shut:

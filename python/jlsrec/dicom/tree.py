@@ -449,13 +449,11 @@ def restore(words: Words) -> int:
         _check_apart(words.tree, words.out)
         held.enter_context(_alone(words.tree))
         _remove_parts(words.tree)
-        for entry in each_below(words.out):
-            path = os.path.relpath(entry.path, words.out)
-            if entry.is_dir(follow_symlinks=False) and _is_within(path, words.parts):
-                try:
-                    make_folders(words.tree, path)
-                except OSError as error:
-                    going.count(failed(path, error.strerror or str(error)))
+        for path in _folders(words):
+            try:
+                make_folders(words.tree, path)
+            except OSError as error:
+                going.count(failed(path, error.strerror or str(error)))
         job = Job("restore", words.tree, words.out, str(manifest.token))
         links: list[Line] = []
         going.work(job, _to_restore(manifest, last, going, links), lambda lines: None)
@@ -470,11 +468,27 @@ def _within(last: dict[bytes, int], words: Words) -> dict[bytes, int]:
     if not words.parts:
         return last
     kept = {path: number for path, number in last.items() if _is_within(path, words.parts)}
-    folders = {os.path.relpath(each.path, words.out) for each in each_below(words.out) if each.is_dir()}
     for part in words.parts:
-        if part not in folders and not any(_is_within(path, [part]) for path in kept):
+        if not _is_folder(words.out, part) and not any(_is_within(path, [part]) for path in kept):
             raise Refused(f"{shown(part)!r}: the manifest names nothing so; a part is named as it is below OUT")
     return kept
+
+
+def _is_folder(out: bytes, part: bytes) -> bool:
+    """Whether a part is a folder of OUT, and not one that a link or another name leads to."""
+    root = os.path.realpath(out)
+    place = os.path.join(root, part)
+    return place.startswith(root + b"/") and os.path.isdir(place) and os.path.realpath(place) == place
+
+
+def _folders(words: Words) -> Iterator[bytes]:
+    """The folders of OUT, or of the parts that are to be restored."""
+    for part in [part for part in words.parts if _is_folder(words.out, part)] if words.parts else [b""]:
+        if part:
+            yield part
+        for entry in each_below(os.path.join(words.out, part)):
+            if entry.is_dir(follow_symlinks=False):
+                yield os.path.relpath(entry.path, words.out)
 
 
 def _is_within(path: bytes, parts: Sequence[bytes]) -> bool:
