@@ -10,7 +10,7 @@ _jlsrec_dicom() {
         ;;
     to-film) options+=' --offset' ;;
     to-dicom) options+=' --extended' ;;
-    compress) options+=' --jobs --dask --second --report' ;;
+    compress) options+=' --jobs --dask --second --reread --report' ;;
     restore | verify) options+=' --jobs --dask --report' ;;
     esac
     case $before in

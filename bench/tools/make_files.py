@@ -1,4 +1,5 @@
-"""Makes the DICOM files that bench/tools/run times: make_files.py FOLDER. Smooth samples with noise of a few bits."""
+"""Makes the DICOM files that bench/tools/run times: make_files.py FOLDER, or a tree of slices of 512 by 512 pixels and
+12 bits, 50 in a folder: make_files.py FOLDER COUNT. Smooth samples with noise of a few bits."""
 
 import sys
 from pathlib import Path
@@ -8,10 +9,10 @@ import pydicom
 from pydicom.dataset import Dataset, FileMetaDataset
 
 
-def make(path: Path, frames: int, side: int, bits: int, colors: int) -> None:
-    noise = np.random.default_rng(7)
+def make(path: Path, frames: int, side: int, bits: int, colors: int, seed: int = 7) -> None:
+    noise = np.random.default_rng(seed)
     shape = (frames, side, side, colors)
-    x = np.linspace(0, 9, side)
+    x = np.linspace(0, 9, side) + 0.1 * (seed - 7)
     smooth = (np.sin(x)[:, None] * np.cos(x * 1.7)[None, :] + 1) / 2 * ((1 << bits) - 1) * 0.8
     values = smooth[None, :, :, None] + noise.normal(0, max(2.0, (1 << bits) / 700), shape) + 5 * np.arange(colors)
     values = values.clip(0, (1 << bits) - 1)
@@ -34,6 +35,12 @@ def make(path: Path, frames: int, side: int, bits: int, colors: int) -> None:
 
 
 folder = Path(sys.argv[1])
+for number in range(int(sys.argv[2]) if len(sys.argv) > 2 else 0):
+    place = folder / f"series{number // 50}" / f"{number}.dcm"
+    place.parent.mkdir(parents=True, exist_ok=True)
+    make(place, 1, 512, 12, 1, seed=7 + number)
+if len(sys.argv) > 2:
+    sys.exit()
 make(folder / "gray8.dcm", 1, 2048, 8, 1)
 make(folder / "gray12.dcm", 1, 2048, 12, 1)
 make(folder / "gray16.dcm", 1, 2048, 16, 1)

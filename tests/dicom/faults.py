@@ -252,9 +252,11 @@ GONE = """
 import os
 from jlsrec.dicom import tree
 real = tree._to_compress
-def to_compress(*words):
+def to_compress(listing, *words):
+    # Once it was found.
+    listing.join()
     os.unlink("tree/gone.dcm")
-    yield from real(*words)
+    yield from real(listing, *words)
 tree._to_compress = to_compress
 real_walk = tree.os.scandir
 class Shut:
@@ -609,6 +611,7 @@ if tool is None:
     print("a second decoder that fails: not tested, since dcmdjpls isn't there; apt-get install dcmtk has it")
 else:
     fresh("a.dcm", "b.dcm")
+    time.sleep(SETTLED)
     os.mkdir("bin")
     Path("bin/dcmdjpls").write_text(TOOL.format(tool))
     os.chmod("bin/dcmdjpls", 0o755)
@@ -625,7 +628,7 @@ else:
     status, found, text = asked("work")
     case(f"later: each is read: {text}", status == 0 and {row.get("second") for row in found.values()} == {"dcmtk"})
     status, found, text = asked("refuse")
-    case(f"later: once: {text}", status == 0 and "2 done before" in text)
+    case(f"later: once: {text}", status == 0 and "2 unchanged" in text)
     shutil.rmtree("out")
     status, found, text = asked("refuse")
     why = "DCMTK can't decode it: no such thing"

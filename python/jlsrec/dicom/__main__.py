@@ -59,12 +59,16 @@ def _run(words: argparse.Namespace) -> int:
         write_files(words.recording, words.out, words.files, words.extended)
         return 0
     from . import tree
+    from .progress import check_report
 
+    check_report(words.report)
     tree.check_second(getattr(words, "second", None))
     root = None if words.tree is None else os.path.abspath(os.fsencode(words.tree))
     out = os.path.abspath(os.fsencode(words.out))
     second = getattr(words, "second", None)
-    given = tree.Words(words.command, out, root, words.jobs, words.dask, second, words.report)
+    reread = getattr(words, "reread", False)
+    parts = [os.path.normpath(os.fsencode(part)) if part else b"" for part in getattr(words, "parts", [])]
+    given = tree.Words(words.command, out, root, words.jobs, words.dask, second, words.report, reread, parts)
     return {"compress": tree.compress, "restore": tree.restore, "verify": tree.verify}[words.command](given)
 
 
@@ -101,13 +105,17 @@ def _add_trees(commands: argparse._SubParsersAction) -> None:
         "compress",
         help="a tree of DICOM files to JPEG-LS, each compared with its source",
         description="Codes each DICOM file of TREE into a file of OUT, in JPEG-LS lossless, restores the source from "
-        "it, and compares that with TREE's, byte for byte. A file that can't be coded is copied. TREE is only read. The "
-        "same command continues a run that was interrupted.",
+        "it, and compares that with TREE's, byte for byte. A file that can't be coded is copied. TREE is only read. "
+        "The same command continues a run that was interrupted, and takes up what is new in TREE: a file that has the "
+        "size, the times and the inode that it had isn't read again.",
     )
     compress.add_argument("tree", metavar="TREE", help="a folder, which is only read")
     compress.add_argument("out", metavar="OUT", help="an empty folder, or that of an earlier run")
     compress.add_argument(
         "--second", choices=["gdcm", "dcmtk"], help="have this decoder read the values too, and compare"
+    )
+    compress.add_argument(
+        "--reread", action="store_true", help="read and compare all files again, also those that haven't changed"
     )
     restore = commands.add_parser(
         "restore",
@@ -117,6 +125,9 @@ def _add_trees(commands: argparse._SubParsersAction) -> None:
     )
     restore.add_argument("out", metavar="OUT", help="a folder that a tree was compressed into")
     restore.add_argument("tree", metavar="TREE", help="the folder that gets the files")
+    restore.add_argument(
+        "parts", metavar="PART", nargs="*", help="a file or a folder of OUT, by its name below OUT; by default all"
+    )
     verify = commands.add_parser(
         "verify",
         help="a compressed tree compared with its manifest",

@@ -11,6 +11,7 @@ import errno
 import hashlib
 import os
 import stat
+import time
 from collections.abc import Callable, Iterable, Iterator, Sequence
 from dataclasses import dataclass
 from typing import Any, Optional, Union
@@ -27,6 +28,14 @@ from .verified import is_settled, stamp
 Line = dict[str, Any]
 # Errors by which no other file can be written either.
 FULL = {errno.ENOSPC, errno.EDQUOT}
+
+
+# What has happened to a file of OUT that isn't what the manifest says.
+DAMAGED = "OUT's file was damaged or replaced"
+
+
+class Differs(Damaged):
+    """Why bytes aren't those of a file."""
 
 
 @dataclass(frozen=True)
@@ -48,20 +57,21 @@ def do_batch(job: Job, items: Sequence[Union[bytes, Line]]) -> list[Line]:
 def do_each(job: Job, items: Sequence[Union[bytes, Line]]) -> Iterator[Line]:
     """The same lines, each once its file is done."""
     sees_out = manifest.token_in(job.out) == job.token
+    now = manifest.time_in(job.out)
     for item in items:
-        yield _do(job, item) if sees_out else failed(item, "this worker doesn't see OUT and its manifest")
+        yield _do(job, item, now) if sees_out else failed(item, "this worker doesn't see OUT and its manifest")
 
 
-def _do(job: Job, item: Union[bytes, Line]) -> Line:
+def _do(job: Job, item: Union[bytes, Line], now: float) -> Line:
     try:
         if isinstance(item, bytes):
-            return {**manifest.named(item), **compress(job, item)}
+            return {**manifest.named(item), **compress(job, item, now)}
         line = restore(job, item) if job.command == "restore" else verify(job, item)
         return {**manifest.named(manifest.path_in(item)), **line}
     except (Changed, Damaged) as why:
         return failed(item, str(why))
     except Taken:
-        return failed(item, "there is another file of its name, which was left as it is")
+        return {**failed(item, "there is another file of its name, which was left as it is"), "is_taken": True}
     except OSError as error:
         line = failed(item, error.strerror or str(error))
         return {**line, "is_full": True} if error.errno in FULL else line
@@ -77,26 +87,36 @@ def failed(item: Union[bytes, Line], why: str) -> Line:
     return {**manifest.named(path), "state": "failed", "why": why}
 
 
-def compress(job: Job, path: bytes) -> Line:
-    """Compresses a file into OUT, or copies it there, and compares what then stands there with it, byte for byte."""
+def compress(job: Job, path: bytes, now: float) -> Line:
+    """Compresses a file into OUT, or copies it there, and compares what then stands there with it, byte for byte.
+
+    The line says what a later run tells the file by, if any change of it from now on would be seen by that.
+    """
     assert job.tree is not None
     place = os.path.join(job.out, path)
     make_folders(job.out, os.path.dirname(path))
     with Source(os.path.join(job.tree, path)) as source:
         _clear(place, source)
+        line = _coded_or_copied(source, place, job.second)
+        if is_settled(source.stat, now):
+            line.update(ctime_ns=source.stat.st_ctime_ns, inode=source.stat.st_ino)
+        return line
+
+
+def _coded_or_copied(source: Source, place: bytes, other: Optional[str]) -> Line:
+    try:
+        return _coded(source, place, other)
+    except Left as why:
+        text = str(why)
         try:
-            return _coded(source, place, job.second)
-        except Left as why:
-            text = str(why)
-            try:
-                return _put(
-                    source,
-                    place,
-                    lambda part: _copy(source, part),
-                    lambda path, written: copied_line(path, source, text),
-                )
-            except Taken:
-                raise Damaged(f"{text}; there is another file of its name, which was left as it is") from None
+            return _put(
+                source,
+                place,
+                lambda part: _copy(source, part),
+                lambda path, written: copied_line(path, source, text),
+            )
+        except Taken:
+            raise Damaged(f"{text}; there is another file of its name, which was left as it is") from None
 
 
 def _coded(source: Source, place: bytes, other: Optional[str]) -> Line:
@@ -121,7 +141,7 @@ def _coded(source: Source, place: bytes, other: Optional[str]) -> Line:
             raise Taken from None
         source.check()
         sync_folder(os.path.dirname(place))
-        return line
+        return {**line, "stood": True}
 
 
 def _clear(place: bytes, source: Source) -> None:
@@ -137,7 +157,7 @@ def _put(
     write: Callable[[Part], Optional[str]],
     check: Callable[[bytes, Optional[str]], Line],
 ) -> Line:
-    """Puts a file in its place once it is checked. What an earlier run put there before it ended is checked alike."""
+    """Puts a file in its place once it is checked. What an earlier run put there is checked alike; the line says so."""
     if standing(place) is None:
         with Part(place) as part:
             written = write(part)
@@ -158,7 +178,7 @@ def _put(
         raise Taken from None
     source.check()
     sync_folder(os.path.dirname(place))
-    return line
+    return {**line, "stood": True}
 
 
 def _copy(source: Source, part: Part) -> None:
@@ -210,15 +230,15 @@ def _sums(source: Source, made: Source, sha256: str) -> Line:
 
 
 def compared(chunks: Iterable[bytes], source: Source) -> str:
-    """The SHA-256 of bytes that were compared with a file's. Raises Damaged if they differ."""
+    """The SHA-256 of bytes that were compared with a file's. Raises Differs if they differ."""
     sum, at = hashlib.sha256(), 0
     for chunk in chunks:
         if at + len(chunk) > source.size or source.read(at, len(chunk)) != chunk:
-            raise Damaged("it has other bytes or values than its source")
+            raise Differs("it has other bytes or values than its source")
         sum.update(chunk)
         at += len(chunk)
     if at != source.size:
-        raise Damaged("it has fewer bytes than its source")
+        raise Differs("it has fewer bytes than its source")
     return sum.hexdigest()
 
 
@@ -234,7 +254,7 @@ def restore(job: Job, line: Line) -> Line:
     assert job.tree is not None
     path = manifest.path_in(line)
     place = os.path.join(job.tree, path)
-    with Source(os.path.join(job.out, path)) as made:
+    with _opened(job.out, path, "OUT") as made:
         there = standing(place)
         if there is not None:
             _same_sum(place, line["sha256_before"])
@@ -246,11 +266,24 @@ def restore(job: Job, line: Line) -> Line:
                 sum.update(chunk)
                 part.write(chunk)
             if sum.hexdigest() != line["sha256_before"]:
-                raise Damaged("what comes back has another sum than the manifest says")
+                raise Damaged(f"what comes back has another sum than the manifest says: {DAMAGED}")
             part.sync(made.stat)
             _same_sum(part.path, line["sha256_before"])
-            part.settle()
+            try:
+                part.settle()
+            except Taken:
+                # Another program may have put the same file there meanwhile.
+                _same_sum(place, line["sha256_before"])
+                return {"state": "there", "bytes_before": made.size, "bytes_after": line["bytes_before"]}
         return {"state": "restored", "bytes_before": made.size, "bytes_after": line["bytes_before"]}
+
+
+def _opened(root: bytes, path: bytes, name: str) -> Source:
+    """A file of one side. Raises Damaged if it isn't there."""
+    try:
+        return Source(os.path.join(root, path))
+    except FileNotFoundError:
+        raise Damaged(f"{name} hasn't it any more") from None
 
 
 def _same_sum(path: bytes, sha256: str) -> None:
@@ -274,10 +307,11 @@ def verify(job: Job, line: Line) -> Line:
     """
     path = manifest.path_in(line)
     with contextlib.ExitStack() as opened:
-        made = opened.enter_context(Source(os.path.join(job.out, path)))
-        source = None if job.tree is None else opened.enter_context(Source(os.path.join(job.tree, path)))
+        made = opened.enter_context(_opened(job.out, path, "OUT"))
+        source = None if job.tree is None else opened.enter_context(_opened(job.tree, path, "the tree"))
         files = [file for file in (made, source) if file is not None]
-        are_settled = all(is_settled(file.stat) for file in files)
+        now = time.time()
+        are_settled = all(is_settled(file.stat, now) for file in files)
         _compare_sums(made, source, line)
         found = {"state": "verified", "bytes_before": line["bytes_before"], "bytes_after": made.size}
         if are_settled and not any(file.has_changed() for file in files):
@@ -289,7 +323,7 @@ def _compare_sums(made: Source, source: Optional[Source], line: Line) -> None:
     """Raises Damaged if a file of OUT, its values or its source aren't what the manifest or the tree's file says."""
     values = hashlib.sha256()
     if made.size != line["bytes_after"] or sum_of(made) != line["sha256"]:
-        raise Damaged("its sum isn't that of the manifest")
+        raise Damaged(f"it hasn't the sum that the manifest says: {DAMAGED}")
     chunks = _source_chunks(made, line, lambda array: values.update(array))
     if source is None:
         sum = hashlib.sha256()
@@ -297,7 +331,10 @@ def _compare_sums(made: Source, source: Optional[Source], line: Line) -> None:
             sum.update(chunk)
         before = sum.hexdigest()
     else:
-        before = compared(chunks, source)
+        try:
+            before = compared(chunks, source)
+        except Differs:
+            raise Damaged("the tree's file isn't what was compressed; OUT has it as it was then") from None
     if before != line["sha256_before"]:
         raise Damaged("its source's sum isn't that of the manifest")
     if line["state"] == "compressed" and values.hexdigest() != line["sha256_values"]:

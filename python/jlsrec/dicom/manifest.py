@@ -6,6 +6,7 @@ its last line holds. A last line that has no end was torn, and is cut off by the
 
 from __future__ import annotations
 
+import contextlib
 import errno
 import fcntl
 import json
@@ -23,6 +24,8 @@ NAME = b"manifest.jsonl"
 FORMAT = "jlsrec-dicom 1"
 # What has a file in OUT.
 KEPT = ("compressed", "copied")
+# No file has so many bytes.
+MOST_BYTES = 1 << 63
 # What failed once and isn't in the tree any more: as if it had no line.
 GONE = "gone"
 
@@ -44,8 +47,13 @@ def path_in(line: dict[str, Any]) -> bytes:
     return path
 
 
+def row_of(line: dict[str, Any]) -> bytes:
+    """The bytes of a line, without its end."""
+    return json.dumps(line).encode()
+
+
 def _check(line: dict[str, Any]) -> None:
-    """Raises KeyError or TypeError if a line lacks what it is to have."""
+    """Raises KeyError, TypeError or ValueError if a line lacks what it is to have."""
     words, numbers = ["state"], []
     if line["state"] in KEPT:
         words += ["sha256", "sha256_before"]
@@ -56,6 +64,8 @@ def _check(line: dict[str, Any]) -> None:
         words.append("why")
     if not all([isinstance(line[word], str) for word in words]) or not all([type(line[n]) is int for n in numbers]):
         raise TypeError
+    if numbers and not (0 <= line["bytes_before"] < MOST_BYTES and 0 <= line["bytes_after"] < MOST_BYTES):
+        raise ValueError
     if line["state"] == "link":
         bytes.fromhex(line["to_hex"])
 
@@ -67,6 +77,27 @@ def token_in(out: bytes) -> Optional[str]:
             return _token(file.readline(4096))
     except OSError:
         return None
+
+
+def _lacking(out: bytes) -> str:
+    """What is said of a folder without a manifest."""
+    above = os.path.dirname(out)
+    while above != os.path.dirname(above):
+        if token_in(above) is not None:
+            return f"there is no manifest; {shown(above)} has one, and is the OUT of this folder"
+        above = os.path.dirname(above)
+    return "there is no manifest: no tree was compressed into it"
+
+
+def time_in(out: bytes) -> float:
+    """The time, by this machine's clock or that of OUT's file system, whichever is behind.
+
+    A run sets the manifest's time when it begins, and each line that it adds does: so that is at most the time now.
+    """
+    try:
+        return min(time.time(), os.stat(os.path.join(out, NAME)).st_mtime)
+    except OSError:
+        return 0.0
 
 
 def _token(line: bytes) -> Optional[str]:
@@ -98,7 +129,7 @@ class Manifest:
             self.number = os.open(self.path, flags | os.O_CLOEXEC | os.O_NOFOLLOW)
         except FileNotFoundError:
             if not writes:
-                raise Refused(f"{shown(out)}: there is no manifest") from None
+                raise Refused(f"{shown(out)}: {_lacking(out)}") from None
             self.is_new = True
             if set(os.listdir(out)) - {b"lost+found"}:
                 raise Refused(f"{shown(out)}: it has files, and no manifest: compress wants an empty folder") from None
@@ -145,6 +176,8 @@ class Manifest:
         if whole < size:
             os.ftruncate(self.number, whole)
         if whole > 0:
+            with contextlib.suppress(OSError):
+                os.utime(self.number)
             return whole
         heading = json.dumps({"format": FORMAT, "token": secrets.token_hex(8)}).encode() + b"\n"
         write_all(self.number, heading)
@@ -154,21 +187,25 @@ class Manifest:
 
     def lines(self) -> Iterator[dict[str, Any]]:
         """The lines, but for the first. Raises Refused for one that is damaged."""
+        return (line for _, line in self.rows())
+
+    def rows(self) -> Iterator[tuple[bytes, dict[str, Any]]]:
+        """The same lines, each with its bytes."""
         with open(self.path, "rb") as file:
             at = len(file.readline())
-            for number, line in enumerate(file, 2):
-                at += len(line)
+            for number, row in enumerate(file, 2):
+                at += len(row)
                 if at > self.size:
                     return
                 try:
-                    found = json.loads(line)
-                    path_in(found)
-                    _check(found)
+                    line = json.loads(row)
+                    path_in(line)
+                    _check(line)
                 except (ValueError, KeyError, TypeError, AttributeError, RecursionError):
                     raise Refused(
                         f"{shown(self.path)}: line {number} is damaged; without it its file is looked at anew"
                     ) from None
-                yield found
+                yield row[:-1], line
 
     def last(self) -> dict[bytes, int]:
         """Which line holds for each file, by its number from 0."""
@@ -188,7 +225,7 @@ class Manifest:
 
     def add(self, lines: list[dict[str, Any]]) -> None:
         """Adds lines, each whole or not at all. They are synced once a second, and by close."""
-        data = b"".join(json.dumps(line).encode() + b"\n" for line in lines)
+        data = b"".join(row_of(line) + b"\n" for line in lines)
         if self._is_torn:
             raise OSError(errno.EIO, os.strerror(errno.EIO))
         try:

@@ -3,11 +3,13 @@
 from __future__ import annotations
 
 import collections
+import errno
 import json
+import os
 import shutil
 import sys
 import time
-from typing import Any
+from typing import Any, Optional
 
 from .._files import NewFile
 
@@ -25,8 +27,10 @@ class Progress:
         self.reasons: collections.Counter[str] = collections.Counter()
         self.failures: list[dict[str, Any]] = []
         self.before = self.after = 0
-        # Files and bytes that needn't be done, since an earlier run did them.
+        # Files and bytes that needn't be done, since an earlier run did them, and they haven't changed since.
         self.skipped = self.skipped_bytes = 0
+        # Files of OUT that weren't found in the tree, and those that were put into OUT and may have got no line.
+        self.only_in_out = self.unnoted = 0
         # How many files and bytes there are, and whether that is all.
         self.files = self.bytes = 0
         self.is_counted = False
@@ -99,9 +103,14 @@ class Progress:
         """Says what came of the run."""
         parts = [f"{count:,} {state}" for state, count in sorted(self.states.items())]
         if self.skipped:
-            parts.append(f"{self.skipped:,} done before")
+            parts.append(f"{self.skipped:,} {'unchanged' if self.command == 'compress' else 'done before'}")
         sizes = f"; {_size(self.before)} to {_size(self.after)}" if self.after else ""
         self.say(f"{', '.join(parts) or 'no files'}{sizes}, in {_time(self.seconds)}")
+        if self.unnoted:
+            self.say(f"{self.unnoted:,} of these may have no line in the manifest: the next run looks at them again")
+        if self.only_in_out:
+            found = "file of OUT wasn't" if self.only_in_out == 1 else "files of OUT weren't"
+            self.say(f"{self.only_in_out:,} {found} found in the tree, and will stay in OUT")
         for why, count in self.reasons.most_common(MOST_REASONS):
             self.say(f"copied as they are: {count:,}, since {why}")
 
@@ -112,6 +121,7 @@ class Progress:
             "finished": is_finished,
             "files": self.files,
             "skipped": self.skipped,
+            **({"unchanged": self.skipped, "only_in_out": self.only_in_out} if self.command == "compress" else {}),
             **{state: self.states[state] for state in sorted(self.states)},
             "bytes_before": self.before,
             "bytes_after": self.after,
@@ -124,6 +134,18 @@ class Progress:
         }
         with NewFile(path, replace=True) as file:
             file.write(json.dumps(made, indent=2).encode() + b"\n")
+
+
+def check_report(path: Optional[str]) -> None:
+    """Raises OSError if there can't be a report of this name, before anything is done."""
+    if path is None:
+        return
+    if os.path.isdir(path):
+        raise IsADirectoryError(errno.EISDIR, os.strerror(errno.EISDIR), path)
+    folder = os.path.dirname(os.path.abspath(path))
+    if not os.path.exists(path) and not os.access(folder, os.W_OK | os.X_OK):
+        error = errno.EACCES if os.path.isdir(folder) else errno.ENOENT
+        raise OSError(error, os.strerror(error), path)
 
 
 def _size(count: float) -> str:

@@ -9,12 +9,14 @@ from __future__ import annotations
 
 import contextlib
 import errno
+import fcntl
 import itertools
 import os
 import queue
 import signal
 import stat
 import threading
+import time
 from collections.abc import Iterator, Sequence
 from dataclasses import dataclass
 from typing import Any, Callable, Optional, Union
@@ -22,7 +24,8 @@ from typing import Any, Callable, Optional, Union
 from .._files import sync_folder
 from . import Refused, second
 from .each import Job, Line, failed
-from .manifest import GONE, KEPT, NAME, Manifest, named, path_in
+from .known import Kept, Known
+from .manifest import GONE, KEPT, NAME, Manifest, named, path_in, row_of
 from .places import PART, make_folders, shown, standing
 from .progress import Progress
 from .verified import Verified
@@ -32,6 +35,9 @@ from .work import Dask, Lost, Processes, Workers, run
 BATCH_FILES, DASK_FILES = 16, 64
 BATCH_BYTES = 1 << 26
 INTERRUPTED = 130
+UNNAMED = "the manifest doesn't name it; if a run of compress was ended, the same command takes it up"
+# For how many seconds files may be looked at before what is on its way is seen to.
+EVERY = 0.1
 
 
 @dataclass(frozen=True)
@@ -45,6 +51,9 @@ class Words:
     dask: Optional[str]
     second: Optional[str]
     report: Optional[str]
+    reread: bool = False
+    # What is to be restored, by its names below OUT; all if none are named.
+    parts: Sequence[bytes] = ()
 
 
 @dataclass(frozen=True)
@@ -163,6 +172,7 @@ class Run:
         # Why it was stopped, and whether it was by a signal.
         self.why = ""
         self.status = 0
+        self._due = time.monotonic() + EVERY
 
     def stop(self, why: str, status: int = 1) -> None:
         """Has no further file be begun."""
@@ -173,9 +183,7 @@ class Run:
         """Those that the words ask for."""
         if self.words.dask is None:
             return Processes(self.words.jobs)
-        workers = Dask(self.words.dask)
-        self.progress.say(f"the scheduler's workers have {workers.threads()} threads")
-        return workers
+        return Dask(self.words.dask, self.progress.say)
 
     def batched(self, items: Iterator[Optional[tuple[Any, int]]]) -> Iterator[Sequence[Any]]:
         """Items with their bytes in batches; an empty one where there is none yet."""
@@ -209,12 +217,15 @@ class Run:
         def counted(lines: list[Line]) -> None:
             if any([line.pop("is_full", False) for line in lines]):
                 self.stop("there is no more space")
+            # What an earlier run put there wasn't made by this one.
+            stood = [line.pop("stood", False) for line in lines]
             try:
                 done(lines)
             except OSError as error:
                 self.stop(f"{error.strerror or error}: no line can be added to the manifest")
-            for line in lines:
-                self.count(line)
+                self.progress.unnoted += sum(line["state"] in KEPT for line in lines)
+            for line, has_stood in zip(lines, stood):
+                self.count({**line, "state": "compared"} if has_stood else line)
 
         return counted
 
@@ -225,6 +236,13 @@ class Run:
     def _look(self) -> bool:
         self.progress.tell()
         return self.is_stopped
+
+    def is_due(self) -> bool:
+        """Whether it is time to see to what is on its way, also if there is nothing to be done with many files."""
+        now = time.monotonic()
+        is_due = now > self._due
+        self._due = now + EVERY if is_due else self._due
+        return is_due
 
     @contextlib.contextmanager
     def _until_signalled(self) -> Iterator[None]:
@@ -266,9 +284,10 @@ def compress(words: Words) -> int:
         job = Job("compress", words.tree, words.out, str(manifest.token), words.second)
         listing = Listing(words.tree, words.out, going.progress)
         listing.start()
-        going.work(job, _to_compress(listing, known, going, manifest), manifest.add)
+        going.work(job, _to_compress(listing, known, going, manifest), lambda lines: _note(lines, known, manifest))
         if not going.is_stopped:
             _forget(known, going, manifest)
+            going.progress.only_in_out = len(known) - known.met
         # Workers that died meanwhile leave some too.
         _remove_parts(words.out)
         try:
@@ -278,26 +297,12 @@ def compress(words: Words) -> int:
         return going.end()
 
 
-class Known:
-    """What the manifest says already: of a file its bytes and time before and its bytes after; else its line."""
-
-    def __init__(self, manifest: Manifest, second: Optional[str]) -> None:
-        self.files: dict[bytes, tuple[int, int, int]] = {}
-        # The files that were compressed and weren't read by the second decoder that is asked for.
-        self.unread: set[bytes] = set()
-        self.others: dict[bytes, Line] = {}
-        # What failed, and wasn't met again in this run.
-        self.failed: set[bytes] = set()
-        for line in manifest.lines():
-            path = path_in(line)
-            if line["state"] in KEPT:
-                self.files[path] = line["bytes_before"], line["mtime_ns"], line["bytes_after"]
-                is_unread = line["state"] == "compressed" and second not in (None, line.get("second"))
-                (self.unread.add if is_unread else self.unread.discard)(path)
-            elif line["state"] not in ("failed", GONE):
-                self.others[path] = line
-            (self.failed.add if line["state"] == "failed" else self.failed.discard)(path)
-        self.failed.difference_update(self.files)
+def _note(lines: list[Line], known: Known, manifest: Manifest) -> None:
+    """Adds the lines that the manifest doesn't have already."""
+    for line in lines:
+        if line.pop("is_taken", False) and path_in(line) in known:
+            line["why"] = "it isn't what was compressed, or OUT's file isn't any more; both were left as they are"
+    manifest.add([line for line in lines if path_in(line) not in known or not known.has(path_in(line), row_of(line))])
 
 
 def _to_compress(
@@ -306,8 +311,9 @@ def _to_compress(
     """The files that are to be compressed. What else there is gets its line here."""
     out = going.words.out
     for entry in listing.entries():
-        if entry is None:
+        if entry is None or going.is_due():
             yield None
+        if entry is None:
             continue
         known.failed.discard(entry.path)
         if entry.is_folder:
@@ -321,16 +327,17 @@ def _to_compress(
                 _record(line, going, manifest)
         else:
             assert entry.stat is not None
-            there, why = None, ""
-            before, time, after = known.files.get(entry.path, (0, 0, 0))
+            kept, there, why = known.get(entry.path), None, ""
+            known.met += kept is not None
             try:
-                there = standing(os.path.join(out, entry.path)) if entry.path in known.files else None
-                why = "" if there is None else _difference(entry.stat, there, before, after)
+                there = None if kept is None else standing(os.path.join(out, entry.path))
+                why = "" if kept is None or there is None else _difference(entry.stat, there, kept)
             except OSError as error:
                 why = error.strerror or str(error)
+            is_same = kept is not None and there is not None and kept.is_of(entry.stat)
             if why:
                 _record(failed(entry.path, why), going, manifest)
-            elif there is not None and entry.stat.st_mtime_ns == time and entry.path not in known.unread:
+            elif is_same and not going.words.reread and entry.path not in known.unread:
                 going.progress.skip(entry.stat.st_size)
             else:
                 yield entry.path, entry.stat.st_size
@@ -353,11 +360,11 @@ def _forget(known: Known, going: Run, manifest: Manifest) -> None:
         going.count(line)
 
 
-def _difference(source: os.stat_result, there: os.stat_result, before: int, after: int) -> str:
+def _difference(source: os.stat_result, there: os.stat_result, kept: Kept) -> str:
     """Why a file that has a line isn't what that says, here or in OUT; neither is touched then."""
-    if source.st_size != before:
+    if source.st_size != kept.before:
         return "it isn't what was compressed; OUT has it as it was then, and was left so"
-    if not stat.S_ISREG(there.st_mode) or there.st_size != after:
+    if not stat.S_ISREG(there.st_mode) or there.st_size != kept.after:
         return "OUT has another file of its name than the manifest says, which was left as it is"
     return ""
 
@@ -435,19 +442,18 @@ def restore(words: Words) -> int:
     assert words.tree is not None
     if os.path.lexists(words.tree):
         _check_apart(words.tree, words.out)
-    with contextlib.closing(Manifest(words.out, False)) as manifest:
+    with contextlib.closing(Manifest(words.out, False)) as manifest, contextlib.ExitStack() as held:
+        going = Run(words)
+        last = _within(manifest.last(), words)
         _make_out(words.tree)
         _check_apart(words.tree, words.out)
-        going = Run(words)
-        last = manifest.last()
+        held.enter_context(_alone(words.tree))
         _remove_parts(words.tree)
-        for entry in each_below(words.out):
-            if entry.is_dir(follow_symlinks=False):
-                path = os.path.relpath(entry.path, words.out)
-                try:
-                    make_folders(words.tree, path)
-                except OSError as error:
-                    going.count(failed(path, error.strerror or str(error)))
+        for path in _folders(words):
+            try:
+                make_folders(words.tree, path)
+            except OSError as error:
+                going.count(failed(path, error.strerror or str(error)))
         job = Job("restore", words.tree, words.out, str(manifest.token))
         links: list[Line] = []
         going.work(job, _to_restore(manifest, last, going, links), lambda lines: None)
@@ -455,6 +461,55 @@ def restore(words: Words) -> int:
         for line in [] if going.is_stopped else links:
             going.count(_linked(words.tree, path_in(line), bytes.fromhex(line["to_hex"])))
         return going.end()
+
+
+def _within(last: dict[bytes, int], words: Words) -> dict[bytes, int]:
+    """The files of the parts that are to be restored. Raises Refused for a part that OUT doesn't have."""
+    if not words.parts:
+        return last
+    kept = {path: number for path, number in last.items() if _is_within(path, words.parts)}
+    for part in words.parts:
+        if not _is_folder(words.out, part) and not any(_is_within(path, [part]) for path in kept):
+            raise Refused(f"{shown(part)!r}: the manifest names nothing so; a part is named as it is below OUT")
+    return kept
+
+
+def _is_folder(out: bytes, part: bytes) -> bool:
+    """Whether a part is a folder of OUT, and not one that a link or another name leads to."""
+    root = os.path.realpath(out)
+    place = os.path.join(root, part)
+    return place.startswith(root + b"/") and os.path.isdir(place) and os.path.realpath(place) == place
+
+
+def _folders(words: Words) -> Iterator[bytes]:
+    """The folders of OUT, or of the parts that are to be restored."""
+    for part in [part for part in words.parts if _is_folder(words.out, part)] if words.parts else [b""]:
+        if part:
+            yield part
+        for entry in each_below(os.path.join(words.out, part)):
+            if entry.is_dir(follow_symlinks=False):
+                yield os.path.relpath(entry.path, words.out)
+
+
+def _is_within(path: bytes, parts: Sequence[bytes]) -> bool:
+    """Whether a name is that of a part, or below it. Without parts each is."""
+    return not parts or any(path == part or path.startswith(part + b"/") for part in parts)
+
+
+@contextlib.contextmanager
+def _alone(folder: bytes) -> Iterator[None]:
+    """Locks a folder, where its file system can. Raises Refused if another run has."""
+    number = os.open(folder, os.O_RDONLY | os.O_DIRECTORY | os.O_CLOEXEC)
+    try:
+        try:
+            fcntl.flock(number, fcntl.LOCK_EX | fcntl.LOCK_NB)
+        except BlockingIOError:
+            raise Refused(f"{shown(folder)}: another run is at work on it") from None
+        except OSError:
+            pass
+        yield
+    finally:
+        os.close(number)
 
 
 def _lines_that_hold(manifest: Manifest, last: dict[bytes, int]) -> Iterator[Line]:
@@ -492,7 +547,7 @@ def verify(words: Words) -> int:
             verified.begin(verified.name in last)
             going.work(job, _to_verify(manifest, last, going, verified), verified.add)
             if not going.is_stopped:
-                _find_others(words.out, last, going, "the manifest doesn't name it", (NAME, verified.name))
+                _find_others(words.out, last, going, UNNAMED, (NAME, verified.name))
                 if words.tree is not None:
                     _find_others(words.tree, last, going, "OUT doesn't have it")
                 verified.remove()
@@ -501,12 +556,14 @@ def verify(words: Words) -> int:
 
 def _to_verify(
     manifest: Manifest, last: dict[bytes, int], going: Run, verified: Verified
-) -> Iterator[tuple[Line, int]]:
-    """The lines of files that are to be looked at."""
+) -> Iterator[Optional[tuple[Line, int]]]:
+    """The lines of files that are to be looked at; None where it is time to see to those that are on their way."""
     going.progress.files, going.progress.is_counted = len(last), True
     going.progress.bytes = sum(line.get("bytes_before", 0) for line in _lines_that_hold(manifest, last))
     for line in _lines_that_hold(manifest, last):
         path = path_in(line)
+        if going.is_due():
+            yield None
         if line["state"] in KEPT:
             if verified.has(line):
                 going.progress.skip(line["bytes_before"])

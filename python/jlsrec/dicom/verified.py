@@ -13,7 +13,6 @@ import hashlib
 import json
 import os
 import sys
-import time
 from collections.abc import Sequence
 from typing import Any, Optional
 
@@ -29,9 +28,9 @@ SETTLED = 2.0
 Line = dict[str, Any]
 
 
-def is_settled(of: os.stat_result) -> bool:
-    """Whether any further change of a file would be seen by its time."""
-    return time.time() - of.st_ctime > SETTLED
+def is_settled(of: os.stat_result, now: float) -> bool:
+    """Whether any change of a file from now on would be seen by its time."""
+    return now - of.st_ctime > SETTLED
 
 
 def stamp(line: Line, files: Sequence[os.stat_result]) -> str:

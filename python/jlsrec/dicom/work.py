@@ -374,21 +374,22 @@ def _silence() -> None:
 class Dask:
     """The workers of a dask scheduler, on any machines that see the same trees by the same names.
 
-    The scheduler itself gives a batch to another worker if one dies, and gives it back if several have.
+    The scheduler itself gives a batch to another worker if one dies, and gives it back if several have. It is said how
+    many threads they have, whenever that is another number.
     """
 
     most_deaths = 1
 
-    def __init__(self, address: str) -> None:
+    def __init__(self, address: str, say: Callable[[str], None]) -> None:
         try:
             import distributed
         except ImportError:
             raise Refused("--dask wants dask.distributed; apt-get install python3-distributed has it") from None
         _silence()
         self._distributed = distributed
-        self._address = address
+        self._address, self._say = address, say
         self._finished = _Finished()
-        self._threads, self._asked = 0, 0.0
+        self._threads, self._asked = -1, 0.0
         self._items: dict[Any, Sequence[Any]] = {}
         try:
             self._client = distributed.Client(address, timeout=10, set_as_default=False)
@@ -397,19 +398,32 @@ class Dask:
 
     def _check(self) -> None:
         if self._client.status != "running":
-            raise Lost(f"the scheduler at {self._address} is gone")
+            raise Lost(f"the scheduler at {self._address} is gone, or can't be reached")
 
-    def threads(self) -> int:
-        """How many threads the workers have that the scheduler has now."""
+    def _ask(self) -> None:
+        """Asks the scheduler for its workers, now and then."""
         self._check()
         now = time.monotonic()
-        if now > self._asked + ASKED_EVERY:
+        if now < self._asked + ASKED_EVERY:
+            return
+        self._asked = now
+        try:
             workers = self._client.scheduler_info()["workers"].values()
-            self._threads, self._asked = sum(worker["nthreads"] for worker in workers), now
-        return self._threads
+        except (OSError, TimeoutError, self._distributed.TimeoutError):
+            self._check()
+            return
+        threads = sum(worker["nthreads"] for worker in workers)
+        if threads != self._threads:
+            self._threads = threads
+            self._say(
+                f"the scheduler's workers have {threads} thread{'s' if threads != 1 else ''}"
+                if threads > 0
+                else "the scheduler has no workers now; the run waits for some"
+            )
 
     def count(self) -> int:
-        return max(self.threads(), 1)
+        self._ask()
+        return max(self._threads, 1)
 
     def submit(self, job: Job, items: Sequence[Any]) -> Any:
         self._check()
@@ -419,7 +433,7 @@ class Dask:
 
     def wait(self) -> list[Any]:
         done = self._finished.wait()
-        self._check()
+        self._ask()
         return done
 
     def result(self, future: Any) -> list[Line]:
