@@ -12,7 +12,10 @@ _jlsrec() {
         mapfile -t COMPREPLY < <(compgen -W 'record play code list index check verify replay' -- "$word")
         return
         ;;
-    record) options+=' --workers --queue --window --preset --into --replace --progress --report --index' ;;
+    record)
+        options+=' --workers --queue --window --preset --into --replace --progress --report --index'
+        options+=' --count --for --keep-open --sync'
+        ;;
     play) options+=' --frames --salvage --index --workers' ;;
     verify) options+=' --workers' ;;
     index) options+=' --no-sums' ;;
@@ -21,7 +24,7 @@ _jlsrec() {
     replay) options+=' --sources --capacity' ;;
     esac
     case $before in
-    --workers | --queue | --window | --sources | --capacity | --preset | --frames) COMPREPLY=() ;;
+    --workers | --queue | --window | --sources | --capacity | --preset | --frames | --count | --for | --sync) COMPREPLY=() ;;
     --into) mapfile -t COMPREPLY < <(compgen -d -- "$word") ;;
     *)
         if [[ $word == -* ]]; then

@@ -1,17 +1,18 @@
 -- What the results of engines say of a command.
-use Rattle.std.proofs.Common.{◌≡◌, ◌⊎◌, ℕ, List, Option, Result, Ok, Err, IfOk, IfErr, MatchResult, refl, sym, ◌∙◌, inl, inr, arith}
+use Rattle.std.proofs.Common.{◌≡◌, ◌⊎◌, ℕ, List, Option, None, Result, Ok, Err, IfOk, IfErr, MatchResult, refl, sym, subst, ◌∙◌, inl, inr, arith}
 use Rattle.ls_archive.specs.declared.verifying.Verdict.{Verdict}
 use Rattle.ls_archive.specs.declared.verifying.Verdict.TheVariants.{Same, Differs, Missing, Extra}
+use Rattle.ls_archive.specs.declared.faults.IndexFault.{IndexFault}
+use Rattle.ls_archive.specs.View.Coded.{CodesWithIndex}
 use Rattle.ls_archive.specs.View.Comparing.{FindsAhead}
 use Rattle.ls_console.specs.declared.output.TheConstants.{DONE, FAILED}
 use Rattle.ls_film.specs.declared.faults.FilmFault.{FilmFault}
 use Rattle.ls_film.specs.declared.part.Part.{Part}
 use Rattle.ls_film.specs.declared.part.PartFault.{PartFault}
 use Rattle.ls_film.specs.declared.playing.PlayFault.{PlayFault}
-use Rattle.ls_film.specs.View.Engine.{Completes}
 use Rattle.ls_film.specs.View.Playing.{Stops, StopsAhead}
-use Rattle.ls_frame.specs.Picture.{Picture}
-use Rattle.ls_reading.specs.View.Commands.{IsPart, PlaysPart, ShowsPartOf, WritesTextOf, HaveSameFrames}
+use Rattle.ls_reading.specs.View.Commands.{IsPart, PlaysPart, ShowsPartOf, HaveSameFrames}
+use Rattle.ls_reading.specs.View.Indexes.{HasCoded}
 use Rattle.ls_reading.specs.View.Statuses.{verdict_status}
 
 -- playing one by one stops as playing ahead does
@@ -58,11 +59,11 @@ module _ {O : Type 0} (holds : O → List ℕ → Option (List ℕ) → Type 0) 
   same-frames film recording images left codestreams (Missing number) status one other finds is done = absurd (not-both status is done)
   same-frames film recording images left codestreams (Extra number) status one other finds is done = absurd (not-both status is done)
 
--- a text was written if the status is 0
-module _ {O : Type 0} (holds : O → List ℕ → Option (List ℕ) → Type 0) (opener : O) (path : List ℕ) (written written' : Option (List ℕ)) where
-  pub text-written : (IsImage : List ℕ → Picture → Type 0) (text : List Picture → List ℕ) (read left : Option (List ℕ)) (outcome : Result ℕ FilmFault) (status : ℕ)
-      → holds opener path read → MatchResult outcome (λ _. status ≡ DONE) (λ _. status ≡ FAILED)
-      → IfOk outcome (Completes IsImage text read left written written') → status ≡ DONE → WritesTextOf holds opener path written written' IsImage text
-  text-written IsImage text read left (Ok count) status file is completes done =
-      record { read = read; left = left; count = count; file = file; run = completes }
-  text-written IsImage text read left (Err fault) status file is completes done = absurd (not-both status is done)
+-- a film was coded with its index, which is whole, if the status is 0
+pub has-coded : (read left written written' begun begun' index index' : Option (List ℕ)) (outcome : Result ℕ FilmFault) (status : ℕ) (broken : Option IndexFault)
+    → begun ≡ begun' → index' ≡ index → MatchResult outcome (λ _. status ≡ DONE) (λ _. status ≡ FAILED)
+    → IfOk outcome (CodesWithIndex read left written written' begun index broken) → status ≡ DONE → broken ≡ None → HasCoded read written written' begun' index'
+has-coded read left written written' begun begun' index index' (Ok n) status broken same same' is coded done none =
+    subst (λ i. HasCoded read written written' begun' i) (sym same')
+    (subst (λ b. HasCoded read written written' b index) same (left, n, subst (λ b. CodesWithIndex read left written written' begun index b n) none coded))
+has-coded read left written written' begun begun' index index' (Err fault) status broken same same' is coded done none = absurd (not-both status is done)

@@ -6,9 +6,11 @@ ghost use Rattle.ls_film.specs.View.Steps.{failed_by};
 ghost use Rattle.ls_archive.specs.View.Checks.{IsChecked, Stops as StopsCheck, blames_recording};
 ghost use Rattle.ls_archive.specs.View.Comparing.{FindsAhead};
 ghost use Rattle.ls_archive.specs.View.Indexing.{Completes as Indexes, Stops as StopsIndex};
+ghost use Rattle.ls_archive.specs.View.Places.{AreStanding};
 ghost use Rattle.ls_archive.specs.View.Verifying.{Stops as StopsComparison};
+ghost use Rattle.ls_console.specs.View.Readers.{unread};
 ghost use Rattle.ls_reading.specs.View.Commands.{HasNoGaps, HaveSameFrames, IsSearched, PassesCheck, WritesIndexOf};
-ghost use Rattle.ls_reading.specs.View.Statuses.{verdict_status};
+ghost use Rattle.ls_reading.specs.View.Statuses.{DoneOrFailed, verdict_status};
 
 use crate::asked::Asked;
 use crate::cause::conclude;
@@ -38,7 +40,7 @@ where
     O: Opens + Copy + Drop,
     W: Write,
     E: Outlet,
-    ensures status { (result ≡ DONE) ⊎ (result ≡ FAILED) }
+    ensures status { DoneOrFailed result }
     ensures lists { result ≡ DONE → WritesIndexOf O.holds program.entry.opener file.now
         (W.contents (wrapped program.entry.output.now)) (W.contents (wrapped program.exit.1.1.0.now)) sums }
 {
@@ -71,7 +73,7 @@ where
     O: Opens + Copy + Drop,
     W: Write,
     E: Outlet,
-    ensures status { (result.1 ≡ DONE) ⊎ (result.1 ≡ FAILED) }
+    ensures status { DoneOrFailed result.1 }
     ensures lists { result.1 ≡ DONE → WritesIndexOf O.holds asked.entry.0.opener asked.entry.0.file.now
         (W.contents (wrapped output)) (W.contents (wrapped result.0)) asked.entry.1 }
 {
@@ -101,7 +103,7 @@ where
     O: Opens + Copy + Drop,
     L: Write,
     E: Outlet,
-    ensures status { (result ≡ DONE) ⊎ (result ≡ FAILED) }
+    ensures status { DoneOrFailed result }
     ensures lists { result ≡ DONE → WritesIndexOf O.holds program.entry.opener file.now
         (L.contents (wrapped program.entry.output.now)) (L.contents (wrapped program.exit.1.1.0.now)) sums }
 {
@@ -147,7 +149,7 @@ where
     O: Opens + Copy + Drop,
     W: Write,
     E: Outlet,
-    ensures status { (result ≡ DONE) ⊎ (result ≡ FAILED) }
+    ensures status { DoneOrFailed result }
     ensures good { result ≡ DONE → IfSome index.entry (λ index. PassesCheck O.holds program.entry.opener file.now index.now) }
     ensures alone { result ≡ DONE → IfNone index.entry (HasNoGaps O.holds program.entry.opener file.now) }
 {
@@ -192,7 +194,7 @@ where
     O: Opens + Copy + Drop,
     W: Write,
     E: Outlet,
-    ensures status { (result ≡ DONE) ⊎ (result ≡ FAILED) }
+    ensures status { DoneOrFailed result }
     ensures good { result ≡ DONE → PassesCheck O.holds program.entry.opener file.now index.now }
 {
     let Program {
@@ -292,6 +294,7 @@ pub fn find_all<O: Opens + Drop, E: Outlet>(
     console: &mut Console<E>,
 ) -> Result<Vec<Option<u64>>, u8>
     ensures count { IfOk result (λ places. length places.items ≡ length wanted.now) }
+    ensures standing { IfOk result (λ places. AreStanding (unread O.File.remaining recording.entry) wanted.now places.items) }
     ensures status { IfErr result (λ status. status ≡ FAILED) }
 {
     match find_lent(alloc, &mut recording, wanted, end) {
@@ -308,6 +311,7 @@ fn find_lent<R: Feed>(
     end: u64,
 ) -> Result<Vec<Option<u64>>, CheckFault>
     ensures count { IfOk result (λ places. length places.items ≡ length wanted.now) }
+    ensures standing { IfOk result (λ places. AreStanding (left_in R.remaining recording.old) wanted.now places.items) }
     ensures blame { IfErr result (λ fault. (fault ≡ CheckFault.Io) ⊎ (fault ≡ CheckFault.NoMemory)) }
     ensures reads { R.failed_reads (inner_reader recording.new) ≡ count_after (failed_by blames_recording result) (R.failed_reads (inner_reader recording.old)) }
 {
@@ -356,7 +360,7 @@ where
     O: Opens + Copy + Drop,
     W: Write,
     E: Outlet,
-    ensures status { (result ≡ DONE) ⊎ (result ≡ FAILED) }
+    ensures status { DoneOrFailed result }
     ensures good { result ≡ DONE → HasNoGaps O.holds program.entry.opener file.now }
 {
     let Program {
@@ -413,7 +417,7 @@ where
     O: Opens + Copy + Drop,
     W: Write,
     E: Outlet,
-    ensures status { (result ≡ DONE) ⊎ (result ≡ FAILED) }
+    ensures status { DoneOrFailed result }
     ensures same { result ≡ DONE → HaveSameFrames O.holds program.entry.opener film.now recording.now }
 {
     let Program {
@@ -546,7 +550,7 @@ impl<'l, L: Outlet> Report<'l, L> {
         places: &[Option<u64>],
         console: &mut Console<E>,
     ) -> u8
-        ensures status { (result ≡ DONE) ⊎ (result ≡ FAILED) }
+        ensures status { DoneOrFailed result }
         ensures good { result ≡ DONE → (checked.damaged ≡ 0) × (checked.more ≡ false) }
     {
         match self.write_all(findings, places) {
@@ -602,7 +606,7 @@ impl<'l, L: Outlet> Report<'l, L> {
 
     /// Writes the totals of a check; `moved` of the damaged codestreams were found elsewhere. Returns the status.
     fn end<E: Outlet>(&mut self, checked: Checked, moved: u64, console: &mut Console<E>) -> u8
-        ensures status { (result ≡ DONE) ⊎ (result ≡ FAILED) }
+        ensures status { DoneOrFailed result }
         ensures good { result ≡ DONE → (checked.damaged ≡ 0) × (checked.more ≡ false) }
     {
         match self.write_end(checked, moved) {

@@ -1,5 +1,5 @@
 //! The commands `list` and `code`, the latter with an index of its codestreams or without.
-ghost use Rattle.std.specs.Prelude.{◌≡◌, ◌⊎◌, ℕ, List, true, None, IfOk, IfErr};
+ghost use Rattle.std.specs.Prelude.{◌≡◌, ◌⊎◌, true, None, IfOk, IfErr};
 ghost use Rattle.ls_frame.specs.Netpbm.{IsImageOf};
 ghost use Rattle.ls_frame.specs.View.Devices.{count_after, wrapped};
 ghost use Rattle.ls_film.specs.Coding.{default_file};
@@ -7,16 +7,18 @@ ghost use Rattle.ls_film.specs.Listing.{lines as film_lines};
 ghost use Rattle.ls_film.specs.View.Engine.{Completes};
 ghost use Rattle.ls_film.specs.View.Steps.{failed_by};
 ghost use Rattle.ls_film.specs.View.Stopping.{Stops, blames_reader, blames_writer};
-ghost use Rattle.ls_archive.specs.View.Following.{index_of};
+ghost use Rattle.ls_archive.specs.View.Coded.{CodesWithIndex};
+ghost use Rattle.ls_files.specs.View.Files.{held_by_target};
 ghost use Rattle.ls_console.specs.View.Readers.{unread};
 ghost use Rattle.ls_reading.specs.View.Commands.{WritesTextOf};
-ghost use Rattle.ls_reading.specs.View.Indexes.{IsWholeIndex};
+ghost use Rattle.ls_reading.specs.View.Indexes.{HasCoded};
+ghost use Rattle.ls_reading.specs.View.Statuses.{DoneOrFailed, DoneFailedOrUsage};
 
 use crate::asked::Asked;
 use crate::cause::{Caused, conclude};
 use crate::indexing::make_index;
 use core::mem::replace_with;
-use ls_archive::{Follower, IndexFault, Indexing};
+use ls_archive::{CodedFilm, IndexFault, code_film_with_index};
 use ls_console::{
     Console, DONE, EndedIndex, FAILED, Host, Lines, MadeFile, Program, Reader, USAGE, finish_lines,
     line_buffer, no_memory, open_film, say_index_end,
@@ -34,7 +36,7 @@ where
     O: Opens + Copy + Drop,
     W: Write,
     E: Outlet,
-    ensures status { (result ≡ DONE) ⊎ (result ≡ FAILED) }
+    ensures status { DoneOrFailed result }
     ensures lists { result ≡ DONE → WritesTextOf O.holds program.entry.opener file.now
         (W.contents (wrapped program.entry.output.now)) (W.contents (wrapped program.exit.1.1.0.now)) IsImageOf film_lines }
 {
@@ -64,7 +66,7 @@ where
     O: Opens + Copy + Drop,
     W: Write,
     E: Outlet,
-    ensures status { (result.1 ≡ DONE) ⊎ (result.1 ≡ FAILED) }
+    ensures status { DoneOrFailed result.1 }
     ensures lists { result.1 ≡ DONE → WritesTextOf O.holds asked.entry.opener asked.entry.file.now
         (W.contents (wrapped output)) (W.contents (wrapped result.0)) IsImageOf film_lines }
 {
@@ -93,7 +95,7 @@ where
     O: Opens + Copy + Drop,
     L: Write,
     E: Outlet,
-    ensures status { (result ≡ DONE) ⊎ (result ≡ FAILED) }
+    ensures status { DoneOrFailed result }
     ensures lists { result ≡ DONE → WritesTextOf O.holds program.entry.opener file.now
         (L.contents (wrapped program.entry.output.now)) (L.contents (wrapped program.exit.1.1.0.now)) IsImageOf film_lines }
 {
@@ -131,7 +133,7 @@ where
     O: Opens + Copy + Drop,
     W: Write,
     E: Outlet,
-    ensures status { (result ≡ DONE) ⊎ (result ≡ FAILED) }
+    ensures status { DoneOrFailed result }
     ensures codes { result ≡ DONE → WritesTextOf O.holds program.entry.opener file.now
         (W.contents (wrapped program.entry.output.now)) (W.contents (wrapped program.exit.1.1.0.now)) IsImageOf default_file }
 {
@@ -172,39 +174,9 @@ where
     O: Makes + Copy + Drop,
     W: Write,
     E: Outlet,
-    ensures status { (result ≡ DONE) ⊎ ((result ≡ FAILED) ⊎ (result ≡ USAGE)) }
+    ensures status { DoneFailedOrUsage result }
     ensures codes { result ≡ DONE → WritesTextOf O.holds program.entry.opener file.now
         (W.contents (wrapped program.entry.output.now)) (W.contents (wrapped program.exit.1.1.0.now)) IsImageOf default_file }
-{
-    let Coded { status, index } = code_indexed(program, file, index);
-    if let Some(ended) = index {
-        ended.target.release();
-    }
-    status
-}
-
-/// A film that was coded while its index was written: the status, and the index, if it was begun.
-#[derive(Drop)]
-struct Coded<'a, O: Opens> {
-    status: u8,
-    index: Option<EndedIndex<'a, O>>,
-}
-
-/// Codes a film, and writes the index of its codestreams to a file, which isn't released yet.
-fn code_indexed<'a, R, O, W, E>(
-    program: Program<'_, R, O, W, E>,
-    file: &str,
-    index: &'a str,
-) -> Coded<'a, O>
-where
-    R: Host,
-    O: Makes + Copy + Drop,
-    W: Write,
-    E: Outlet,
-    ensures status { (result.status ≡ DONE) ⊎ ((result.status ≡ FAILED) ⊎ (result.status ≡ USAGE)) }
-    ensures codes { result.status ≡ DONE → WritesTextOf O.holds program.entry.opener file.now
-        (W.contents (wrapped program.entry.output.now)) (W.contents (wrapped program.exit.1.1.0.now)) IsImageOf default_file }
-    ensures whole { result.status ≡ DONE → IsWholeIndex result.index }
 {
     let Program {
         rt,
@@ -214,13 +186,22 @@ where
     } = program;
     let film = match open_film(rt.alloc(), opener, file, console) {
         Ok(film) => film,
-        Err(status) => return Coded::without_index(status),
+        Err(status) => return status,
     };
     let made = match make_index(rt, opener, index, &film, console) {
         Ok(made) => made,
-        Err(status) => return Coded::without_index(status),
+        Err(status) => return status,
     };
-    code_made(rt.alloc(), file, film, made, output, console)
+    let coded = code_made(rt.alloc(), file, film, made, output, console);
+    coded.index.release();
+    coded.status
+}
+
+/// A film that was coded while its index was written: the status, and the file of the index, which isn't released yet.
+#[derive(Drop)]
+struct Coded<'a, O: Opens> {
+    status: u8,
+    index: Target<'a, O>,
 }
 
 /// Codes a film while its index is written to a file that was made.
@@ -236,10 +217,9 @@ where
     O: Makes + Copy + Drop,
     W: Write,
     E: Outlet,
-    ensures status { (result.status ≡ DONE) ⊎ (result.status ≡ FAILED) }
-    ensures codes { result.status ≡ DONE → (opener : O) (path : List ℕ) → O.holds opener path (unread O.File.remaining film.entry)
-        → WritesTextOf O.holds opener path (W.contents (wrapped output.old)) (W.contents (wrapped output.new)) IsImageOf default_file }
-    ensures whole { result.status ≡ DONE → IsWholeIndex result.index }
+    ensures status { DoneOrFailed result.status }
+    ensures codes { result.status ≡ DONE → HasCoded (unread O.File.remaining film.entry) (W.contents (wrapped output.old)) (W.contents (wrapped output.new))
+        (held_by_target O.File.contents made.entry.target) (held_by_target O.File.contents result.index) }
 {
     let MadeFile {
         path,
@@ -249,17 +229,18 @@ where
     let coding = Coding {
         alloc,
         film,
-        follower: Follower::new(alloc, Counted::new(target)),
+        index: Counted::new(target),
     };
     let Followed {
         result,
         film,
-        follower,
+        index,
         broken,
     } = replace_with(output, coding, code_followed);
     let status = conclude(file, result, &film, output.last_failure(), console);
     give_back_unless(result.is_ok(), &mut keeper);
-    end_coded(status, path, follower, broken, &keeper, console)
+    let ended = end_index(path, index, broken, &keeper, console);
+    Coded::of(status, ended)
 }
 
 /// Gives back the place of an index, unless its film was coded.
@@ -269,81 +250,45 @@ fn give_back_unless<O: Makes + Copy + Drop>(is_coded: bool, keeper: &mut Keeper<
     }
 }
 
-/// Ends the index of a film that was coded with this status.
-fn end_coded<'a, O, E>(
-    status: u8,
-    path: &str,
-    follower: Option<Follower<Counted<Target<'a, O>>>>,
-    broken: Option<IndexFault>,
-    keeper: &Keeper<O>,
-    console: &mut Console<E>,
-) -> Coded<'a, O>
-where
-    O: Makes + Copy + Drop,
-    E: Outlet,
-    ensures status { (result.status ≡ status) ⊎ (result.status ≡ FAILED) }
-    ensures whole { result.status ≡ DONE → IsWholeIndex result.index }
-    ensures unbroken { result.status ≡ DONE → broken ≡ None }
-{
-    match follower {
-        Some(follower) => {
-            let ended = end_index(path, follower, broken, keeper, console);
-            Coded::with_index(status, ended)
-        }
-        None => Coded::without_index(FAILED),
-    }
-}
-
 impl<'a, O: Opens> Coded<'a, O> {
-    /// A film that wasn't coded with an index.
-    fn without_index(status: u8) -> Coded<'a, O>
-        ensures status { result.status ≡ status }
-    {
-        Coded {
-            status,
-            index: None,
-        }
-    }
-
-    /// A film that was coded with this status. If its index isn't whole, the status is `FAILED`.
-    fn with_index(status: u8, ended: EndedIndex<'a, O>) -> Coded<'a, O>
+    /// A film that was coded with this status; `FAILED` if its index isn't whole.
+    fn of(status: u8, ended: EndedIndex<'a, O>) -> Coded<'a, O>
         ensures status { (result.status ≡ status) ⊎ (result.status ≡ FAILED) }
-        ensures whole { result.status ≡ DONE → IsWholeIndex result.index }
-        ensures index { result.status ≡ DONE → ended.entry.is_whole ≡ true }
+        ensures whole { result.status ≡ DONE → ended.entry.is_whole ≡ true }
+        ensures index { result.index ≡ ended.entry.target }
     {
-        let status = if ended.is_whole { status } else { FAILED };
         Coded {
-            status,
-            index: Some(ended),
+            status: if ended.is_whole { status } else { FAILED },
+            index: ended.target,
         }
     }
 }
 
-/// A film to be coded, and the follower that writes its index.
+/// A film to be coded, and what its index is written to.
 #[derive(Drop)]
 struct Coding<R, I> {
     alloc: Global,
     film: R,
-    follower: Follower<I>,
+    index: I,
 }
 
-/// A film that was coded: the result, what is left of it, and the follower, with the fault that broke the index off, if
-/// there was one.
+/// A film that was coded: the result, what is left of it, and what its index was written to, with the fault that broke
+/// the index off, if there was one.
 #[derive(Drop)]
 struct Followed<R, I> {
     result: Result<u64, FilmFault>,
     film: R,
-    follower: Option<Follower<I>>,
+    index: I,
     broken: Option<IndexFault>,
 }
 
-/// Codes a film, over any reader and writer, while a follower writes the index. Returns the writer with what was done.
-fn code_followed<R: Feed, W: Outlet, I: Outlet + Drop>(
+/// Codes a film, over any reader and writer, while its index is written. Returns the writer with what was done.
+fn code_followed<R: Feed, W: Outlet, I: Outlet>(
     output: W,
     coding: Coding<R, I>,
 ) -> (W, Followed<R, I>)
-    ensures completes { IfOk result.1.result (Completes IsImageOf default_file
-        (R.remaining coding.film) (R.remaining result.1.film) (W.contents output) (W.contents result.0)) }
+    ensures completes { IfOk result.1.result (CodesWithIndex (R.remaining coding.film) (R.remaining result.1.film)
+        (W.contents output) (W.contents result.0) (I.contents coding.index) (I.contents result.1.index) result.1.broken) }
     ensures stops { IfErr result.1.result (Stops default_file
         (R.remaining coding.film) (R.remaining result.1.film) (W.contents output) (W.contents result.0)) }
     ensures reads { R.failed_reads result.1.film ≡ count_after (failed_by blames_reader result.1.result) (R.failed_reads coding.film) }
@@ -351,24 +296,27 @@ fn code_followed<R: Feed, W: Outlet, I: Outlet + Drop>(
     let Coding {
         alloc,
         mut film,
-        follower,
+        index,
     } = coding;
-    let mut indexing = Indexing::new(output, Some(follower));
-    let result = code_film(alloc, &mut film, &mut indexing);
-    let (output, follower, broken) = indexing.into_parts();
+    let CodedFilm {
+        result,
+        recording,
+        index,
+        broken,
+    } = code_film_with_index(alloc, &mut film, output, index);
     let followed = Followed {
         result,
         film,
-        follower,
+        index,
         broken,
     };
-    (output, followed)
+    (recording, followed)
 }
 
 /// Syncs the index of a film that was coded, and says why it isn't whole, if it isn't.
 fn end_index<'a, O, E>(
     path: &str,
-    follower: Follower<Counted<Target<'a, O>>>,
+    index: Counted<Target<'a, O>>,
     broken: Option<IndexFault>,
     keeper: &Keeper<O>,
     console: &mut Console<E>,
@@ -377,12 +325,12 @@ where
     O: Makes + Copy + Drop,
     E: Outlet,
     ensures whole { result.is_whole ≡ true → broken ≡ None }
-    ensures target { result.target ≡ wrapped (index_of follower.entry) }
+    ensures target { result.target ≡ wrapped index.entry }
 {
     let synced = match keeper.sync() {
         Ok(()) => Ok(()),
         Err(fault) => Err(Failed::from(fault)),
     };
     let broken = broken.map(|fault| (fault, fault.cause()));
-    say_index_end(path, follower.into_inner(), synced, broken, console)
+    say_index_end(path, index, synced, broken, console)
 }

@@ -1,5 +1,5 @@
 //! The command `play`: all of a recording, a part of it, or the intact frames of a damaged one.
-ghost use Rattle.std.specs.Prelude.{◌≡◌, ◌⊎◌, IfOk, IfErr, IfSome, IfNone};
+ghost use Rattle.std.specs.Prelude.{◌≡◌, false, All, IsSome, IfOk, IfErr, IfSome, IfNone};
 ghost use Rattle.ls_frame.specs.View.Chunks.{left_in};
 ghost use Rattle.ls_frame.specs.View.Devices.{wrapped};
 ghost use Rattle.ls_stream.specs.Grammar.{Spells};
@@ -8,11 +8,14 @@ ghost use Rattle.ls_film.specs.View.Engine.{Completes};
 ghost use Rattle.ls_film.specs.View.Parts.{StopsPart};
 ghost use Rattle.ls_film.specs.View.Playing.{StopsAhead};
 ghost use Rattle.ls_salvage.specs.View.Runs.{Completes as Salvages, Stops as StopsSalvage};
-ghost use Rattle.ls_reading.specs.View.Commands.{WritesTextOf, ShowsPartOf, SalvagesAllOf, PlaysPart, IsPart};
+ghost use Rattle.ls_reading.specs.View.Commands.{WritesTextOf, ShowsPartOf, SalvagesAllOf, HasAllOf, PlaysPart, IsPart};
+ghost use Rattle.ls_reading.specs.View.Statuses.{DoneOrFailed};
 
 use crate::cause::conclude;
-use crate::recorded::Recorded;
-use ls_console::{Cause, Console, DONE, FAILED, Host, Program, Shown, explain, open_film};
+use crate::recorded::{Found, Recorded};
+use ls_console::{
+    Cause, Console, DONE, FAILED, Host, Program, Shown, explain, no_memory, open_film,
+};
 use ls_files::Opens;
 use ls_film::{
     MOST_FRAMES, Part, PartFault, PlayFault, play_part, play_recording, play_recording_by,
@@ -35,7 +38,7 @@ where
     O: Opens + Copy + Drop,
     W: Write,
     E: Outlet,
-    ensures status { (result ≡ DONE) ⊎ (result ≡ FAILED) }
+    ensures status { DoneOrFailed result }
     ensures shows { result ≡ DONE → IfNone part (WritesTextOf O.holds program.entry.opener file.now
         (W.contents (wrapped program.entry.output.now)) (W.contents (wrapped program.exit.1.1.0.now)) Spells film_images) }
     ensures part { result ≡ DONE → IfSome part (λ part. IsPart part → ShowsPartOf O.holds program.entry.opener file.now
@@ -117,9 +120,28 @@ where
     O: Opens + Copy + Drop,
     W: Write,
     E: Outlet,
-    ensures status { (result ≡ DONE) ⊎ (result ≡ FAILED) }
+    ensures status { DoneOrFailed result }
     ensures salvages { result ≡ DONE → SalvagesAllOf O.holds program.entry.opener file.now
         (W.contents (wrapped program.entry.output.now)) (W.contents (wrapped program.exit.1.1.0.now)) }
+    ensures found { result ≡ DONE → IfSome index.entry (λ index. HasAllOf O.holds program.entry.opener file.now index.now) }
+{
+    match index {
+        Some(index) => show_found(program, file, index),
+        None => show_intact(program, file, None),
+    }
+}
+
+/// The same by an index.
+fn show_found<R, O, W, E>(program: Program<'_, R, O, W, E>, file: &str, index: &str) -> u8
+where
+    R: Host,
+    O: Opens + Copy + Drop,
+    W: Write,
+    E: Outlet,
+    ensures status { DoneOrFailed result }
+    ensures salvages { result ≡ DONE → SalvagesAllOf O.holds program.entry.opener file.now
+        (W.contents (wrapped program.entry.output.now)) (W.contents (wrapped program.exit.1.1.0.now)) }
+    ensures found { result ≡ DONE → HasAllOf O.holds program.entry.opener file.now index.now }
 {
     let Program {
         rt,
@@ -127,12 +149,44 @@ where
         output,
         console,
     } = program;
-    let recorded = match index {
-        Some(index) => match Recorded::find(rt, opener, file, index, console) {
-            Ok(recorded) => Some(recorded),
-            Err(status) => return status,
-        },
-        None => None,
+    let found = match Found::find(rt, opener, file, index, console) {
+        Ok(found) => found,
+        Err(status) => return status,
+    };
+    let program = Program {
+        rt,
+        opener,
+        output,
+        console,
+    };
+    show_intact(program, file, Some(&found))
+}
+
+/// The same, where these frames of an index were found.
+fn show_intact<R, O, W, E>(
+    program: Program<'_, R, O, W, E>,
+    file: &str,
+    found: Option<&Found>,
+) -> u8
+where
+    R: Host,
+    O: Opens + Copy + Drop,
+    W: Write,
+    E: Outlet,
+    ensures status { DoneOrFailed result }
+    ensures salvages { result ≡ DONE → SalvagesAllOf O.holds program.entry.opener file.now
+        (W.contents (wrapped program.entry.output.now)) (W.contents (wrapped program.exit.1.1.0.now)) }
+    ensures all { result ≡ DONE → IfSome found.entry (λ found. All IsSome found.now.places.items) }
+{
+    let Program {
+        rt,
+        opener,
+        output,
+        console,
+    } = program;
+    let recorded = match recorded_by(rt.alloc(), found) {
+        Ok(recorded) => recorded,
+        Err(AllocError) => return no_memory(console),
     };
     let mut recording = match open_film(rt.alloc(), opener, file, console) {
         Ok(recording) => recording,
@@ -148,7 +202,7 @@ where
     let recorded = gaps.recorded;
     match result {
         Ok(salvaged) => {
-            let lost = recorded.is_some_and(|recorded| recorded.say_lost(file, console));
+            let lost = say_lost(file, found, recorded.as_ref(), console);
             if salvaged.gaps == 0 && !lost {
                 return DONE;
             }
@@ -158,6 +212,29 @@ where
             FAILED
         }
         Err(fault) => conclude(file, Err(fault), &recording, output.last_failure(), console),
+    }
+}
+
+/// The state of the frames that were found before the first gap, if there is an index.
+fn recorded_by(alloc: Global, found: Option<&Found>) -> Result<Option<Recorded<'_>>, AllocError> {
+    match found {
+        Some(found) => Ok(Some(Recorded::new(alloc, found)?)),
+        None => Ok(None),
+    }
+}
+
+/// Says which frames are lost, if there is an index, and whether any is.
+fn say_lost<E: Outlet>(
+    file: &str,
+    found: Option<&Found>,
+    gaps: Option<&Recorded<'_>>,
+    console: &mut Console<E>,
+) -> bool
+    ensures { result ≡ false → IfSome found.entry (λ found. All IsSome found.now.places.items) }
+{
+    match found {
+        Some(found) => found.say_lost(file, gaps, console),
+        None => false,
     }
 }
 
@@ -178,16 +255,16 @@ fn play_whole<R: Feed, W: Outlet, G: Gaps>(
 
 /// Reports the gaps of a file on standard error.
 #[derive(Drop)]
-struct SaidGaps<'f, 'c, E> {
+struct SaidGaps<'f, 'c, 'r, E> {
     file: &'f str,
     console: &'c mut Console<E>,
     /// The number of gaps reported so far.
     gaps: u64,
     /// The recorded frames, if an index gives them.
-    recorded: Option<Recorded>,
+    recorded: Option<Recorded<'r>>,
 }
 
-impl<'f, 'c, E: Outlet> Gaps for SaidGaps<'f, 'c, E> {
+impl<'f, 'c, 'r, E: Outlet> Gaps for SaidGaps<'f, 'c, 'r, E> {
     ghost use Rattle.std.specs.Prelude.{None};
 
     ghost told = { λ _. None };

@@ -1,8 +1,10 @@
 //! Finds, by a recording's index, the recorded numbers of gaps in it, and the frames that were lost.
-ghost use Rattle.std.specs.Prelude.{◌≡◌, IfErr};
+ghost use Rattle.std.specs.Prelude.{◌≡◌, false, All, IsSome, IfOk, IfErr};
 ghost use Rattle.ls_frame.specs.View.Devices.{count_after};
 ghost use Rattle.ls_film.specs.View.Steps.{failed_by};
 ghost use Rattle.ls_archive.specs.View.Checks.{blames_index};
+ghost use Rattle.ls_archive.specs.View.Places.{IsSaidBy};
+ghost use Rattle.ls_reading.specs.View.Commands.{AreFoundIn, SaysLines};
 
 use crate::archive::{find_all, is_read_anew};
 use crate::cause::conclude;
@@ -14,22 +16,16 @@ use ls_salvage::Gap;
 use std::alloc::{AllocError, Global};
 use std::rt::Files;
 
-/// The recorded frames, and where they are in the recording now.
+/// The frames of an index, and where they are in its recording now.
 #[derive(Drop)]
-pub struct Recorded {
+pub struct Found {
     /// The lines of the index.
     lines: Vec<Wanted>,
-    /// The frames that were found, ordered by place: the place, then the number.
-    standing: Vec<(u64, usize)>,
-    /// For each frame, whether it isn't played.
-    lost: Vec<bool>,
-    /// The number of found frames before the end of the last gap.
-    passed: usize,
-    /// The number of the index line that gave the last gap its number.
-    line: usize,
+    /// For each frame, the place at which it was found, if it was.
+    places: Vec<Option<u64>>,
 }
 
-impl Recorded {
+impl Found {
     /// Finds the frames of an index in a recording. On failure says why and returns the status.
     pub fn find<R, O, E>(
         rt: &R,
@@ -37,12 +33,13 @@ impl Recorded {
         file: &str,
         index: &str,
         console: &mut Console<E>,
-    ) -> Result<Recorded, u8>
+    ) -> Result<Found, u8>
     where
         R: AllocGlobal + Files,
         O: Opens + Copy + Drop,
         E: Outlet,
-        ensures { IfErr result (λ status. status ≡ FAILED) }
+        ensures found { IfOk result (λ found. AreFoundIn O.holds opener file.now index.now found.lines.items found.places.items) }
+        ensures status { IfErr result (λ status. status ≡ FAILED) }
     {
         if !is_read_anew(rt, file) {
             let shown = Shown(file);
@@ -53,30 +50,72 @@ impl Recorded {
         let lines = lines_of(alloc, opener, index, console)?;
         let recording = open_film(alloc, opener, file, console)?;
         let places = find_all(alloc, file, recording, &lines, 0, console)?;
-        match Recorded::new(alloc, lines, &places) {
-            Ok(recorded) => Ok(recorded),
-            Err(AllocError) => Err(no_memory(console)),
-        }
+        Ok(Found { lines, places })
     }
 
-    fn new(
-        alloc: Global,
-        lines: Vec<Wanted>,
-        places: &[Option<u64>],
-    ) -> Result<Recorded, AllocError> {
+    /// Says which frames are lost, and whether any is: it wasn't found, or it begins in one of these gaps.
+    pub fn say_lost<E: Outlet>(
+        &self,
+        file: &str,
+        gaps: Option<&Recorded<'_>>,
+        console: &mut Console<E>,
+    ) -> bool
+        ensures { result ≡ false → All IsSome self.now.places.items }
+    {
+        let mut any = false;
+        // The number of lost frames just before this one, in a row.
+        let mut run: usize = 0;
+        for (number, place) in self.places.iter().enumerate() {
+            if place.is_none() || is_in_gap(gaps, number) {
+                any = true;
+                run = run.saturating_add(1);
+            } else {
+                say_run(file, number, run, console);
+                run = 0;
+            }
+        }
+        say_run(file, self.places.len(), run, console);
+        any
+    }
+}
+
+/// Whether the frame of this number begins in a gap.
+fn is_in_gap(gaps: Option<&Recorded<'_>>, number: usize) -> bool {
+    match gaps {
+        Some(recorded) => recorded.in_gap.get(number) == Some(&true),
+        None => false,
+    }
+}
+
+/// The recorded frames, while the gaps of their recording are reported.
+#[derive(Drop)]
+pub struct Recorded<'f> {
+    /// The lines of the index.
+    lines: &'f [Wanted],
+    /// The frames that were found, ordered by place: the place, then the number.
+    standing: Vec<(u64, usize)>,
+    /// For each frame, whether it begins in a gap.
+    in_gap: Vec<bool>,
+    /// The number of found frames before the end of the last gap.
+    passed: usize,
+    /// The number of the index line that gave the last gap its number.
+    line: usize,
+}
+
+impl<'f> Recorded<'f> {
+    /// The state before the first gap.
+    pub fn new(alloc: Global, found: &'f Found) -> Result<Recorded<'f>, AllocError> {
         let mut standing = Vec::new(alloc);
-        let mut lost = Vec::new(alloc);
-        for (number, place) in places.iter().enumerate() {
+        for (number, place) in found.places.iter().enumerate() {
             if let Some(place) = *place {
                 standing.push((place, number))?;
             }
-            lost.push(place.is_none())?;
         }
         standing.sort()?;
         Ok(Recorded {
-            lines,
+            lines: &found.lines,
             standing,
-            lost,
+            in_gap: vec![in alloc; false; found.places.len()]?,
             passed: 0,
             line: 0,
         })
@@ -106,13 +145,13 @@ impl Recorded {
         }
     }
 
-    /// Passes the found frames before a place; they are lost if they are in a gap.
-    fn pass(&mut self, place: u64, lost: bool) {
+    /// Passes the found frames before a place, which are in a gap or not.
+    fn pass(&mut self, place: u64, in_gap: bool) {
         for _frame in 0..self.standing.len() {
             let Some(number) = self.next_before(place) else {
                 break;
             };
-            if lost {
+            if in_gap {
                 self.lose(number);
             }
             self.passed = self.passed.saturating_add(1);
@@ -127,10 +166,10 @@ impl Recorded {
         }
     }
 
-    /// Marks a frame as lost.
+    /// Marks a frame as one that begins in a gap.
     fn lose(&mut self, number: usize) {
-        if let Some(lost) = self.lost.get_mut(number) {
-            *lost = true;
+        if let Some(in_gap) = self.in_gap.get_mut(number) {
+            *in_gap = true;
         }
     }
 
@@ -170,24 +209,6 @@ impl Recorded {
             self.lines.len()
         }
     }
-
-    /// Says which frames are lost, and whether any is.
-    pub fn say_lost<E: Outlet>(&self, file: &str, console: &mut Console<E>) -> bool {
-        let mut any = false;
-        // The number of lost frames just before this one, in a row.
-        let mut run: usize = 0;
-        for (number, lost) in self.lost.iter().enumerate() {
-            if *lost {
-                any = true;
-                run = run.saturating_add(1);
-            } else {
-                say_run(file, number, run, console);
-                run = 0;
-            }
-        }
-        say_run(file, self.lost.len(), run, console);
-        any
-    }
 }
 
 /// Says that the `run` frames before the one of this number are lost, if `run` isn't 0.
@@ -217,7 +238,8 @@ fn lines_of<O, E>(
 where
     O: Opens + Drop,
     E: Outlet,
-    ensures { IfErr result (λ status. status ≡ FAILED) }
+    ensures said { IfOk result (λ lines. SaysLines O.holds opener index.now lines.items) }
+    ensures status { IfErr result (λ status. status ≡ FAILED) }
 {
     let mut reader = open_film(alloc, opener, index, console)?;
     let lines = match read_lent(alloc, &mut reader) {
@@ -236,7 +258,8 @@ where
 
 /// Reads the lines of an index, over any reader.
 fn read_lent<I: Feed>(alloc: Global, index: &mut I) -> Result<Vec<Wanted>, CheckFault>
-    ensures { I.failed_reads index.new ≡ count_after (failed_by blames_index result) (I.failed_reads index.old) }
+    ensures wanted { IfOk result (λ wanted. IsSaidBy (I.remaining index.old) wanted.items) }
+    ensures reads { I.failed_reads index.new ≡ count_after (failed_by blames_index result) (I.failed_reads index.old) }
 {
     read_index(alloc, index)
 }

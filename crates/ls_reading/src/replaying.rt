@@ -3,7 +3,8 @@ ghost use Rattle.std.specs.Prelude.{◌≡◌, ◌⊎◌, IfOk, IfErr};
 ghost use Rattle.std.specs.Io.KnownBytes.{Appends};
 ghost use Rattle.ls_frame.specs.View.Devices.{wrapped};
 ghost use Rattle.ls_replay.specs.ReplyLines.{reply_lines};
-ghost use Rattle.ls_reading.specs.View.Replays.{IsReplayOf, IsReplayFault, IsBeyondQueues, WritesReplay, replay_status};
+ghost use Rattle.ls_reading.specs.View.Replays.{HoldsText, IsReplayOf, IsReplayFault, IsBeyondQueues, WritesReplay, replay_status};
+ghost use Rattle.ls_reading.specs.View.Statuses.{DoneOrFailed, DoneFailedOrUsage};
 
 use core::mem::replace_with;
 use ls_console::{
@@ -39,10 +40,10 @@ where
     O: Opens + Copy + Drop,
     W: Write,
     E: Outlet,
-    ensures status { (result ≡ DONE) ⊎ ((result ≡ FAILED) ⊎ (result ≡ USAGE)) }
-    ensures replays { result ≡ DONE → WritesReplay sources capacity
+    ensures status { DoneFailedOrUsage result }
+    ensures replays { result ≡ DONE → WritesReplay O.holds program.entry.opener file.now sources capacity
         (W.contents (wrapped program.entry.output.now)) (W.contents (wrapped program.exit.1.1.0.now)) }
-    ensures usage { result ≡ USAGE → IsBeyondQueues sources capacity }
+    ensures usage { result ≡ USAGE → IsBeyondQueues O.holds program.entry.opener file.now sources capacity }
 {
     let Program {
         rt,
@@ -105,7 +106,8 @@ fn read_steps_text<O, E>(
 where
     O: Opens + Copy + Drop,
     E: Outlet,
-    ensures { IfErr result (λ status. status ≡ FAILED) }
+    ensures text { IfOk result (λ text. HoldsText O.holds opener file.now text.items) }
+    ensures status { IfErr result (λ status. status ≡ FAILED) }
 {
     let mut reader = match Source::open(opener, file) {
         Ok(source) => Counted::new(source),
@@ -135,7 +137,7 @@ fn write_replies<W, E>(
 where
     W: Write,
     E: Outlet,
-    ensures status { (result ≡ DONE) ⊎ (result ≡ FAILED) }
+    ensures status { DoneOrFailed result }
     ensures written { result ≡ DONE → Appends (W.contents (wrapped output.old)) (W.contents (wrapped output.new)) (reply_lines replies.now) }
 {
     let Ok(buffer) = line_buffer(alloc) else {
@@ -164,7 +166,7 @@ fn write_lines<W, E>(output: Counted<W>, told: Told<'_, E>) -> (Counted<W>, u8)
 where
     W: Write,
     E: Outlet,
-    ensures status { (result.1 ≡ DONE) ⊎ (result.1 ≡ FAILED) }
+    ensures status { DoneOrFailed result.1 }
     ensures written { result.1 ≡ DONE → Appends (W.contents (wrapped output)) (W.contents (wrapped result.0)) (reply_lines told.entry.replies.now) }
 {
     let Told {
@@ -188,7 +190,7 @@ fn print_to<L, E>(
 where
     L: Write,
     E: Outlet,
-    ensures status { (result ≡ DONE) ⊎ (result ≡ FAILED) }
+    ensures status { DoneOrFailed result }
     ensures written { result ≡ DONE → Appends (L.contents (wrapped lines.old)) (L.contents (wrapped lines.new)) (reply_lines replies.now) }
 {
     match print_replies(lines, replies) {

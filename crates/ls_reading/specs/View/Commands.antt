@@ -1,6 +1,6 @@
 -- What a command has done that read the file at a path and wrote to standard output. What the file system holds at a path, and the known
 -- bytes of the output before and after, are parameters.
-use Rattle.std.specs.Prelude.{◌≡◌, ◌+◌, ◌<◌, ◌≤◌, ℕ, Bool, false, List, [], Option, None, IfSome, IfNone}
+use Rattle.std.specs.Prelude.{◌≡◌, ◌+◌, ◌<◌, ◌≤◌, ℕ, Bool, false, List, [], All, Option, None, IsSome, IfSome, IfNone}
 use Rattle.ls_frame.specs.Picture.{Picture}
 use Rattle.ls_frame.specs.View.Known.{Tells, known}
 use Rattle.ls_film.specs.declared.part.Part.{Part}
@@ -13,8 +13,10 @@ use Rattle.ls_salvage.specs.declared.salvaging.Salvaged.{Salvaged}
 use Rattle.ls_salvage.specs.View.Runs.{Completes as Salvages}
 use Rattle.ls_archive.specs.declared.checking.Checked.{Checked}
 use Rattle.ls_archive.specs.declared.checking.Finding.{Finding}
+use Rattle.ls_archive.specs.declared.places.Wanted.{Wanted}
 use Rattle.ls_archive.specs.View.Checks.{IsChecked}
 use Rattle.ls_archive.specs.View.Indexing.{Completes as Indexes}
+use Rattle.ls_archive.specs.View.Places.{IsSaidBy, AreStanding}
 use Rattle.ls_archive.specs.View.Verifying.{AreSame}
 
 -- The codestreams before a part of a recording were passed over, and the images of the part's frames were written and nothing else.
@@ -103,3 +105,24 @@ module _ {O : Type 0} (holds : O → List ℕ → Option (List ℕ) → Type 0) 
     pub run : IsChecked lines codestreams before after checked
     pub undamaged : checked.damaged ≡ 0
     pub complete : checked.more ≡ false
+
+  -- What the file at this path holds is an index, as far as it is known, and these are what its lines say.
+  pub record SaysLines (index : List ℕ) (lines : List Wanted) : Type 0 where
+    pub read : Option (List ℕ)
+    pub file : holds opener index read
+    pub said : IsSaidBy read lines
+
+  -- Each codestream of the index that has a place stands there in what the file holds, as far as it is known.
+  pub record AreFoundIn (recording index : List ℕ) (lines : List Wanted) (places : List (Option ℕ)) : Type 0 where
+    pub read : Option (List ℕ)
+    pub file : holds opener recording read
+    pub lines_are : SaysLines index lines
+    pub standing : AreStanding read lines places
+
+  -- What the files at these two paths hold is a recording and an index, as far as it is known: each codestream of the index stands somewhere in
+  -- the recording.
+  pub record HasAllOf (recording index : List ℕ) : Type 0 where
+    pub lines : List Wanted
+    pub places : List (Option ℕ)
+    pub found : AreFoundIn recording index lines places
+    pub all : All IsSome places

@@ -1,9 +1,7 @@
--- An index that was written together with its recording.
-use Rattle.std.specs.Prelude.{◌≡◌, true, Option, Some, None}
-use Rattle.ls_console.specs.declared.written.EndedIndex.{EndedIndex}
+-- An index that is written together with its recording.
+use Rattle.std.specs.Prelude.{ℕ, List, Option, None}
+use Rattle.ls_archive.specs.View.Coded.{CodesWithIndex}
 
-module _ {O F : Type 0} where
-  -- an index was begun, and is whole
-  abbrev pub IsWholeIndex : Option (EndedIndex O F) → Type 0
-  IsWholeIndex None = ⊥
-  IsWholeIndex (Some ended) = ended.is_whole ≡ true
+-- The reader gave a film, and its codestreams were written and nothing else; and so was the index of these codestreams, whole.
+abbrev pub HasCoded : Option (List ℕ) → Option (List ℕ) → Option (List ℕ) → Option (List ℕ) → Option (List ℕ) → Type 0
+HasCoded read written written' begun index = (left : Option (List ℕ)) × (n : ℕ) × CodesWithIndex read left written written' begun index None n
