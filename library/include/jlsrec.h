@@ -2,8 +2,8 @@
  * with one scan per component. What each call returns and what it leaves in memory is proved, as described here, except
  * that NO_MEMORY is returned if an allocation fails, and only then, which is tested.
  *
- * Calls keep no state, and may be made from any thread at any time, also at the same time as others. Encoding, decoding,
- * jlsrec_extent and jlsrec_strict call malloc, realloc and free; the other calls don't.
+ * Calls keep no state, and may be made from any thread at any time, also at the same time as others. Encoding,
+ * decoding, jlsrec_extent and jlsrec_strict call malloc, realloc and free; the other calls don't.
  *
  * The caller guarantees, for every call:
  *   - each pointer is valid, non-null and aligned for its type, even if the count beside it is 0 (it may then point
@@ -157,15 +157,16 @@ uint32_t jlsrec_decode_8(const uint8_t *bytes, size_t count, uint8_t *samples, s
 uint32_t jlsrec_decode_16(const uint8_t *bytes, size_t count, uint16_t *samples, size_t room, jlsrec_form *form,
                           size_t *used, jlsrec_fault *fault);
 
-/* For checkers: decodes the codestream at the front of `count` bytes, and compares the data of its scans with those that
- * encoding its picture with its parameters gives. After the bits of a component's samples decoding accepts up to 15
- * others, of any value; encoding fills up the last byte with 0 and adds nothing. Segments and fill bytes aren't compared.
+/* For checkers: decodes the codestream at the front of `count` bytes, and compares the data of its scans with those
+ * that encoding its picture with its parameters gives. After the bits of a component's samples decoding accepts up to
+ * 15 others, of any value; encoding fills up the last byte with 0 and adds nothing. Segments and fill bytes aren't
+ * compared.
  *
  *   used     receives the codestream's size, in bytes
  *   fault    receives the details of the fault
  *
- * JLSREC_OK: the first *used bytes are a codestream of exactly one picture, and the data of each of its scans are exactly
- * those that encoding gives.
+ * JLSREC_OK: the first *used bytes are a codestream of exactly one picture, and the data of each of its scans are
+ * exactly those that encoding gives.
  * JLSREC_NOT_STRICT: they are a codestream of exactly one picture, and the scan of fault->component is the first with
  * other data.
  * If the bytes begin with a codestream of a picture, one of these is returned, or NO_MEMORY.
@@ -195,11 +196,11 @@ uint32_t jlsrec_extent(const uint8_t *bytes, size_t count, size_t *extent);
  * unchanged. What follows these codestreams is the rest. The status says why there are no more sizes:
  * JLSREC_OK: the rest is empty.
  * JLSREC_NO_ROOM: it isn't, and *found is `room`. It wasn't looked at.
- * JLSREC_TRUNCATED: it ends before EOI, and shows no malformed marker: with more bytes it may get there. It has fewer than
- * 4,294,967,295 bytes.
+ * JLSREC_TRUNCATED: it ends before EOI, and shows no malformed marker: with more bytes it may get there. It has fewer
+ * than 4,294,967,295 bytes.
  * JLSREC_TOO_LARGE: its first 4,294,967,295 bytes show neither EOI nor a malformed marker.
- * JLSREC_NO_SOI, JLSREC_BAD_SEGMENT, JLSREC_UNSUPPORTED_MARKER: this is the first fault of its markers, with its details
- * in *fault (for other statuses *fault is all 0). Decoding may return another one, which is before it.
+ * JLSREC_NO_SOI, JLSREC_BAD_SEGMENT, JLSREC_UNSUPPORTED_MARKER: this is the first fault of its markers, with its
+ * details in *fault (for other statuses *fault is all 0). Decoding may return another one, which is before it.
  * No other status is returned. After each but NO_ROOM the rest begins with no codestream of a picture. */
 uint32_t jlsrec_extents(const uint8_t *bytes, size_t count, size_t *extents, size_t room, size_t *found,
                         jlsrec_fault *fault);

@@ -127,8 +127,8 @@ pub extern "C" fn jlsrec_extent(alloc: Global, bytes: &[u8], extent: &mut usize)
 }
 
 /// Sets the first `extents` to the numbers of bytes of the codestreams that stand one after the other at the front of
-/// `bytes`, found by their markers alone; `found` to how many there are; and `fault` to the details of the fault at which
-/// they end. Returns the status, which is 0 if no bytes are left.
+/// `bytes`, found by their markers alone; `found` to how many there are; and `fault` to the details of the fault at
+/// which they end. Returns the status, which is 0 if no bytes are left.
 #[unsafe(no_mangle)]
 pub extern "C" fn jlsrec_extents(
     bytes: &[u8],

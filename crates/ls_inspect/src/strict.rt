@@ -26,8 +26,8 @@ pub struct Inspected {
 /// Decodes the codestream at the front of bytes, encodes its frame with the same parameters, and compares the data of
 /// the scans. Segments and fill bytes aren't compared: they may be others than encoding writes.
 ///
-/// After the bits of a component's samples `decode_frame` accepts fewer than 16 further bits of any value. Encoding adds
-/// none, and fills the last byte with 0.
+/// After the bits of a component's samples `decode_frame` accepts fewer than 16 further bits of any value. Encoding
+/// adds none, and fills the last byte with 0.
 ///
 /// Fails as `decode_frame` does, and with NoMemory also if the codestream that is compared can't be allocated.
 pub fn inspect(alloc: Global, bytes: &[u8]) -> Result<Inspected, StreamFault>
