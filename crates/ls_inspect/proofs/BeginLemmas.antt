@@ -45,7 +45,7 @@ segment_short : (contents rest : List ℕ) → AreBytes ((two_bytes (2 + length 
 segment_short contents rest are = short_by (2 + length contents) are.0
 
 -- what reading an opening gives
-abbrev Read : Type 0
+abbrev pub Read : Type 0
 Read = FrameHeader × Parameters × List ℕ
 
 -- after the header of the first scan, and after the frame header
@@ -83,12 +83,12 @@ frame_read bytes contents before rest are has =
 -- ---- the opening
 
 -- an opening at the front is read, with its parameters
-record IsRead (bytes contents : List ℕ) (p : Parameters) (rest : List ℕ) : Type 0 where
-  h : FrameHeader
-  header : HeaderRead contents h
-  opening : opening_at bytes ≡ Ok (h, p, rest)
+pub record IsRead (bytes contents : List ℕ) (p : Parameters) (rest : List ℕ) : Type 0 where
+  pub h : FrameHeader
+  pub header : HeaderRead contents h
+  pub opening : opening_at bytes ≡ Ok (h, p, rest)
 
-begin_read : (bytes : List ℕ) → AreBytes bytes → (begins : BeginsWithOpening bytes) → IsRead bytes begins.contents begins.parameters begins.rest
+pub begin_read : (bytes : List ℕ) → AreBytes bytes → (begins : BeginsWithOpening bytes) → IsRead bytes begins.contents begins.parameters begins.rest
 begin_read bytes are begins =
     let contents = begins.contents in
     let before = begins.before in

@@ -1,4 +1,4 @@
-mod BeginLemmas
+pub mod BeginLemmas
 mod EndLemmas
 mod PartLemmas
 mod ScanLemmas
