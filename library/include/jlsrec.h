@@ -2,8 +2,8 @@
  * with one scan per component. What each call returns and what it leaves in memory is proved, as described here, except
  * that NO_MEMORY is returned if an allocation fails, and only then, which is tested.
  *
- * Calls keep no state, and may be made from any thread at any time, also at the same time as others. Encoding, decoding
- * and jlsrec_extent call malloc, realloc and free; the other calls don't.
+ * Calls keep no state, and may be made from any thread at any time, also at the same time as others. Encoding,
+ * decoding, jlsrec_extent and jlsrec_strict call malloc, realloc and free; the other calls don't.
  *
  * The caller guarantees, for every call:
  *   - each pointer is valid, non-null and aligned for its type, even if the count beside it is 0 (it may then point
@@ -49,6 +49,9 @@ enum jlsrec_status {
     JLSREC_BAD_RESET = 13,        /* RESET isn't 3 to the greater of 255 and maxval */
     JLSREC_NOT_8_BITS = 14,       /* of the calls for uint8_t: maxval is over 255 */
 
+    /* Of jlsrec_strict alone: the data of fault.component has other bits after its samples than encoding writes. */
+    JLSREC_NOT_STRICT = 15,
+
     /* Bytes that can't be decoded: the first fault, from left to right. */
     JLSREC_TRUNCATED = 20,        /* the bytes end before the codestream does */
     JLSREC_NO_SOI = 21,           /* the bytes don't begin with SOI (T.81 B.2.1) */
@@ -86,7 +89,7 @@ typedef struct jlsrec_form {
 
 /* Details of a fault that its status doesn't say. Members that don't apply to the fault are 0. */
 typedef struct jlsrec_fault {
-    uint32_t component; /* BAD_CODE, LEFTOVER_BITS: the component, from 0 */
+    uint32_t component; /* NOT_STRICT, BAD_CODE, LEFTOVER_BITS: the component, from 0 */
     uint32_t marker;    /* UNSUPPORTED_MARKER: the marker's code */
     uint32_t number;    /* UNSUPPORTED_COMPONENTS: how many; LSE_ID: the ID */
 } jlsrec_fault;
@@ -154,6 +157,24 @@ uint32_t jlsrec_decode_8(const uint8_t *bytes, size_t count, uint8_t *samples, s
 uint32_t jlsrec_decode_16(const uint8_t *bytes, size_t count, uint16_t *samples, size_t room, jlsrec_form *form,
                           size_t *used, jlsrec_fault *fault);
 
+/* For checkers: decodes the codestream at the front of `count` bytes, and compares the data of its scans with those
+ * that encoding its picture with its parameters gives. After the bits of a component's samples decoding accepts up to
+ * 15 others, of any value; encoding fills up the last byte with 0 and adds nothing. Segments and fill bytes aren't
+ * compared.
+ *
+ *   used     receives the codestream's size, in bytes
+ *   fault    receives the details of the fault
+ *
+ * JLSREC_OK: the first *used bytes are a codestream of exactly one picture, and the data of each of its scans are
+ * exactly those that encoding gives.
+ * JLSREC_NOT_STRICT: they are a codestream of exactly one picture, and the scan of fault->component is the first with
+ * other data.
+ * If the bytes begin with a codestream of a picture, one of these is returned, or NO_MEMORY.
+ * JLSREC_NO_MEMORY: only if everything before the data of the first scan is valid.
+ * 20 and above: the first fault, with its details in *fault, as decoding returns it.
+ * After NO_MEMORY, and after 20 and above, *used is 0; after OK and NO_MEMORY *fault is all 0. */
+uint32_t jlsrec_strict(const uint8_t *bytes, size_t count, size_t *used, jlsrec_fault *fault);
+
 /* Finds the size of the next codestream by its markers alone, where codestreams follow one another: the bytes up to and
  * including EOI; or up to and including the byte that shows that the markers are malformed; or all bytes, if they end
  * before either. If the bytes begin with a codestream of a picture, these are it; otherwise they have the same first
@@ -175,11 +196,11 @@ uint32_t jlsrec_extent(const uint8_t *bytes, size_t count, size_t *extent);
  * unchanged. What follows these codestreams is the rest. The status says why there are no more sizes:
  * JLSREC_OK: the rest is empty.
  * JLSREC_NO_ROOM: it isn't, and *found is `room`. It wasn't looked at.
- * JLSREC_TRUNCATED: it ends before EOI, and shows no malformed marker: with more bytes it may get there. It has fewer than
- * 4,294,967,295 bytes.
+ * JLSREC_TRUNCATED: it ends before EOI, and shows no malformed marker: with more bytes it may get there. It has fewer
+ * than 4,294,967,295 bytes.
  * JLSREC_TOO_LARGE: its first 4,294,967,295 bytes show neither EOI nor a malformed marker.
- * JLSREC_NO_SOI, JLSREC_BAD_SEGMENT, JLSREC_UNSUPPORTED_MARKER: this is the first fault of its markers, with its details
- * in *fault (for other statuses *fault is all 0). Decoding may return another one, which is before it.
+ * JLSREC_NO_SOI, JLSREC_BAD_SEGMENT, JLSREC_UNSUPPORTED_MARKER: this is the first fault of its markers, with its
+ * details in *fault (for other statuses *fault is all 0). Decoding may return another one, which is before it.
  * No other status is returned. After each but NO_ROOM the rest begins with no codestream of a picture. */
 uint32_t jlsrec_extents(const uint8_t *bytes, size_t count, size_t *extents, size_t room, size_t *found,
                         jlsrec_fault *fault);

@@ -638,8 +638,8 @@ class _Window:
         self._address = self._array.ctypes.data
 
     def extents(self, start: int, most: int) -> tuple[list[int], int]:
-        """Where the codestreams from start on end whose EOI is in these bytes, at most so many; and why no further one was
-        looked for or found, as the library's status."""
+        """Where the codestreams from start on end whose EOI is in these bytes, at most so many; and why no further one
+        was looked for or found, as the library's status."""
         left = self.end - start
         sizes = np.empty(min(most, left // LEAST + 1, MANY), np.uintp)
         count, fault = ctypes.c_size_t(), _library.Fault()

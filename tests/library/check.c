@@ -244,6 +244,57 @@ static void sized(const char *name, const uint8_t *bytes, size_t size, size_t ro
     free(out.all);
 }
 
+/* ---- strictness */
+
+/* What is said of the codestream at the front, and of which component. */
+static bool strict_is(const uint8_t *bytes, size_t size, uint32_t want, size_t want_used, jlsrec_fault details) {
+    jlsrec_fault fault;
+    memset(&fault, 0x55, sizeof fault);
+    size_t used = 12345;
+    return jlsrec_strict(bytes, size, &used, &fault) == want && used == want_used && !memcmp(&fault, &details, sizeof fault);
+}
+
+/* What encoding gives of a codestream that is decoded: its data alone are compared, found by the walk above. */
+static uint32_t strictness(const uint8_t *bytes, size_t size, size_t *used, jlsrec_fault *fault) {
+    static uint16_t samples[1 << 20];
+    jlsrec_form form;
+    uint32_t status = jlsrec_decode_16(bytes, size, samples, sizeof samples / sizeof *samples, &form, used, fault);
+    if (status != JLSREC_OK) return status;
+    size_t room = jlsrec_bound(form.components, form.width, form.height, form.maxval), written;
+    uint8_t *again = allocated(room);
+    if (jlsrec_encode_16(&form, samples, (size_t)form.width * form.height * form.components, 0, again, room, &written)) exit(3);
+    size_t at = 2, other = 2;
+    for (uint32_t component = 0; component < form.components && status == JLSREC_OK; component++) {
+        size_t lengths[2];
+        const uint8_t *data[2];
+        for (int i = 0; i < 2; i++) {
+            const uint8_t *all = i ? again : bytes;
+            size_t *place = i ? &other : &at;
+            for (uint8_t code = 0; code != 0xDA;) {
+                while (all[*place] == 0xFF) ++*place;
+                code = all[(*place)++];
+                *place += (size_t)all[*place] << 8 | all[*place + 1];
+            }
+            data[i] = all + *place;
+            while (all[*place] != 0xFF || all[*place + 1] < 0x80) ++*place;
+            lengths[i] = (size_t)(all + *place - data[i]);
+        }
+        if (lengths[0] == lengths[1] && !memcmp(data[0], data[1], lengths[0])) continue;
+        status = JLSREC_NOT_STRICT;
+        fault->component = component;
+    }
+    free(again);
+    return status;
+}
+
+static void strict_alike(const char *name, const uint8_t *bytes, size_t size) {
+    size_t used;
+    jlsrec_fault fault = {0, 0, 0};
+    uint32_t want = strictness(bytes, size, &used, &fault);
+    if (want == JLSREC_NO_ROOM) return;
+    count(strict_is(bytes, size, want, used, fault), "%s: strictness of %zu bytes isn't %u", name, size, want);
+}
+
 /* ---- in and out */
 
 /* Encoding into so much room does what is to be done. */
@@ -313,6 +364,7 @@ static void film(const char *name, const char *coded_name, char **presets) {
         count(jlsrec_extent(want, left, &need) == JLSREC_OK && need <= left, "%s, frame %u: extent", name, number);
         uint64_t bound = jlsrec_bound(p.form.components, p.form.width, p.form.height, p.form.maxval);
         count(need <= bound, "%s, frame %u: bound", name, number);
+        count(strict_is(want, left, JLSREC_OK, need, no_fault), "%s, frame %u: strict", name, number);
         for (int eight = 0; eight < 2; eight++) {
             const void *samples = eight ? (void *)p.small : (void *)p.samples;
             if (eight && p.form.maxval > 255) {
@@ -499,6 +551,7 @@ static void faulty(const char *folder, const char *name, const uint8_t *bytes, s
     count(jlsrec_decode_16(bytes, size, words, 64, &form, &used, &fault) == want && !memcmp(&fault, &details, sizeof fault),
           "%s: to 16 bits", name);
     for (size_t room = 0; room < 3; room++) sized(name, bytes, size, room);
+    count(strict_is(bytes, size, want, 0, details), "%s: strictness", name);
     char path[4096];
     snprintf(path, sizeof path, "%s/%s.jls", folder, name);
     write_file(path, bytes, size);
@@ -607,6 +660,19 @@ static void faults(const char *folder) {
     count(jlsrec_extents(two, 2 * sizeof black, extents, 2, &found, &fault) == JLSREC_OK && found == 2 && extents[0] == sizeof black &&
               extents[1] == sizeof black, "extents of two");
     count(jlsrec_extents(two, 2 * sizeof black, extents, 1, &found, &fault) == JLSREC_NO_ROOM && found == 1, "room for one of two");
+    /* padding, one byte more, and both in the second component */
+    uint8_t loose[sizeof colour + 1];
+    memcpy(loose, two, sizeof black);
+    count(strict_is(two, sizeof black, JLSREC_OK, sizeof black, no_fault), "a black sample is strict");
+    loose[25] |= 1;
+    count(strict_is(loose, sizeof black, JLSREC_NOT_STRICT, sizeof black, no_fault), "other padding");
+    loose[25] = 0x80;
+    memmove(loose + 27, loose + 26, 2);
+    loose[26] = 0;
+    count(strict_is(loose, sizeof black + 1, JLSREC_NOT_STRICT, sizeof black + 1, no_fault), "a byte more");
+    memcpy(loose, colour, sizeof colour);
+    loose[42] |= 0x10;
+    count(strict_is(loose, sizeof colour, JLSREC_NOT_STRICT, sizeof colour, (jlsrec_fault){1, 0, 0}), "other padding of green");
     /* EOI alone is no codestream, nor is a comment's end before a byte D9 */
     const uint8_t lone_end[] = {0xFF, 0xD9}, comment[] = {0xFF, 0xD8, 0xFF, 0xFE, 0, 3, 0xFF, 0xD9};
     count(jlsrec_extents(lone_end, 2, extents, 2, &found, &fault) == JLSREC_NO_SOI && found == 0, "EOI alone");
@@ -648,6 +714,7 @@ static void texts(void) {
     says(JLSREC_BAD_T3, no_fault, "bad presets: T3");
     says(JLSREC_BAD_RESET, no_fault, "bad presets: RESET");
     says(JLSREC_NOT_8_BITS, no_fault, "maxval is over 255");
+    says(JLSREC_NOT_STRICT, f, "not strict");
     says(JLSREC_TRUNCATED, f, "truncated");
     says(JLSREC_NO_SOI, f, "no SOI");
     says(JLSREC_BAD_SEGMENT, f, "bad segment");
@@ -670,7 +737,7 @@ static void texts(void) {
     says(JLSREC_TOO_LARGE, f, "too large");
     says(JLSREC_BAD_CODE, f, "bad code in component 2");
     says(JLSREC_LEFTOVER_BITS, f, "leftover bits in component 2");
-    for (uint32_t status = 15; status < 20; status++) says(status, no_fault, "unknown status");
+    for (uint32_t status = 16; status < 20; status++) says(status, no_fault, "unknown status");
     says(42, no_fault, "unknown status");
     says(4294967295u, no_fault, "unknown status");
     says(JLSREC_BAD_CODE, wide, "unknown status");
@@ -742,8 +809,17 @@ static void memory(const char *name) {
         count(status == JLSREC_OK ? extent == written : status == JLSREC_NO_MEMORY && extent == 0, "%s: request %zu of an extent", name, tries);
     }
     count(tries > 1, "%s: %zu requests of an extent", name, tries);
-    requests = 0;
+    tries = 0;
     jlsrec_fault fault;
+    for (uint32_t status = JLSREC_NO_MEMORY; status != JLSREC_OK && tries < 1000;) {
+        requests = 0;
+        refused_request = ++tries;
+        status = jlsrec_strict(coded, written, &used, &fault);
+        refused_request = 0;
+        count(status == JLSREC_OK ? used == written : status == JLSREC_NO_MEMORY && used == 0, "%s: request %zu of strictness", name, tries);
+    }
+    count(tries > 2, "%s: %zu requests of strictness", name, tries);
+    requests = 0;
     count(jlsrec_extents(coded, written, &extent, 1, &used, &fault) == JLSREC_OK && used == 1 && extent == written && requests == 0,
           "%s: sizes without memory", name);
     /* With a room of the bound, and that over 2^25, no memory is asked for but that of two rows; with less room there is. */
@@ -1023,6 +1099,7 @@ static void mutate(const char *program, unsigned long seed, unsigned long tries,
             write_file(kept, c.bytes, c.count);
         }
         good += status == 0;
+        strict_alike(names[try % files], c.bytes, c.count);
         /* the changed codestream between two of the others */
         const struct bytes *other = &wholes[(try + 1) % files];
         struct bytes three = {allocated(2 * other->count + c.count), 2 * other->count + c.count};

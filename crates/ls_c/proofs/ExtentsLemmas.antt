@@ -1,5 +1,5 @@
 -- The sizes of the codestreams that stand one after the other.
-use Rattle.std.proofs.Common.{◌≡◌, ◌⊎◌, ℕ, ◌+◌, ◌-◌, ◌<◌, ◌≤◌, true, false, eqb, List, [], ◌∷◌, ◌++◌, length, take, drop, set, Ok, Err, inl, inr, refl, sym, ◌∙◌, ap, subst, take-append-drop, length-drop, arith}
+use Rattle.std.proofs.Common.{◌≡◌, ℕ, ◌+◌, ◌<◌, ◌≤◌, true, false, eqb, List, [], ◌∷◌, ◌++◌, length, take, drop, set, Ok, Err, inl, inr, refl, sym, ◌∙◌, ap, subst, take-append-drop, length-drop, arith}
 use Rattle.std.specs.Prelude.{◌↔◌}
 use Rattle.std.proofs.lemmas.Bool.{eqb-true, eqb-false}
 use Rattle.std.proofs.lemmas.Grind.{take-set_at}
@@ -9,7 +9,7 @@ use Rattle.ls_frame.specs.Picture.{Picture}
 use Rattle.ls_stream.specs.declared.faults.StreamFault.{StreamFault}
 use Rattle.ls_stream.specs.Grammar.{Spells}
 use Rattle.ls_stream.specs.declared.faults.StreamFault.TheVariants.{Truncated}
-use Rattle.ls_stream.specs.View.Extents.{extent_at, IsNext}
+use Rattle.ls_stream.specs.View.Extents.{extent_at}
 use Rattle.ls_stream.specs.View.Reading.{start_at}
 use Rattle.ls_stream.specs.View.Outlines.{IsFirstFault}
 use Rattle.ls_stream.proofs.AlikeLaws.{next_has_the_first_fault}

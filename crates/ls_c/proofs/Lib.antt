@@ -8,4 +8,5 @@ mod OneOpeningLemmas
 mod OpeningLemmas
 mod PresetLemmas
 mod RowLemmas
+mod StrictLemmas
 mod TextLemmas

@@ -9,12 +9,13 @@ use Rattle.ls_stream.specs.View.Outlines.{IsFirstFault}
 use Rattle.ls_stream.specs.View.Openings.{Opened, SaysSo}
 use Rattle.ls_stream.specs.View.Extents.{extent_at, IsNext, BeginsEndless}
 use Rattle.ls_inspect.specs.Ends.{HasNoEnd}
+use Rattle.ls_inspect.specs.Strict.{SpellsStrictly, SpellsLoosely}
 use Rattle.ls_c.specs.declared.form.JlsrecForm.{JlsrecForm}
 use Rattle.ls_c.specs.declared.form.JlsrecFault.{JlsrecFault}
 use Rattle.ls_c.specs.declared.refusal.Refusal.{Refusal}
 use Rattle.ls_c.specs.declared.refusal.Refusal.TheVariants as refusal
 use Rattle.ls_c.specs.Forms.{unless_met, no_form, picture_in, coded, request_refusal, encode_refusal, IsOfForm}
-use Rattle.ls_c.specs.Refusals.{status_by, fault_number, details_of, no_details}
+use Rattle.ls_c.specs.Refusals.{status_by, fault_number, details, details_of, no_details}
 
 -- Samples of at most `most`, in rows that start `stride` samples apart, were encoded into a buffer.
 pub record IsEncoding (most : ℕ) (form : JlsrecForm) (stride : ℕ) (samples old new : List ℕ) (written status : ℕ) : Type 0 where
@@ -160,6 +161,27 @@ pub record IsExtents (bytes old new : List ℕ) (found : ℕ) (fault : JlsrecFau
   pub stop : IsStop rest (length old - found) fault status
   -- if the rest begins with a codestream of a frame, there was no room for its size
   pub complete : (front more : List ℕ) (f : Picture) → rest ≡ front ++ more → Spells front f → status ≡ 2
+
+-- The codestream at the front of the bytes was decoded, and the data of its scans compared with those that encoding gives.
+pub record IsStrictness (bytes : List ℕ) (used : ℕ) (fault : JlsrecFault) (status : ℕ) : Type 0 where
+  pub statuses : (status ≡ 0) ⊎ (status ≡ 1) ⊎ (status ≡ 15) ⊎ (20 ≤ status)
+  pub within : used ≤ length bytes
+  -- status 0: the first `used` bytes are a codestream with exactly these data
+  pub strict : status ≡ 0 → (f : Picture) × SpellsStrictly (take used bytes) f
+  -- status 15: they are a codestream, and the scan of the fault's component is the first with other data
+  pub loose : status ≡ 15 → (f : Picture) × SpellsLoosely (take used bytes) f fault.component
+  pub never : status ≡ 15 → (f : Picture) → SpellsStrictly (take used bytes) f → ⊥
+  -- if the bytes begin with a codestream of a frame, it is the one that is looked at, unless an allocation failed
+  pub complete : (front rest : List ℕ) (f : Picture) → bytes ≡ front ++ rest → Spells front f
+      → (status ≡ 1) ⊎ (((status ≡ 0) ⊎ (status ≡ 15)) × (used ≡ length front))
+  -- status 20 and above: the first fault
+  pub faulty : 20 ≤ status → (first : StreamFault) × (status ≡ fault_number first) × (fault ≡ details_of first) × IsFirstFault bytes first
+      × (first ≢ NoMemory)
+  -- an allocation is tried only after a complete legal opening
+  pub memory : status ≡ 1 → BeginsWithOpening (take most_bytes bytes)
+  pub unused : status ≢ 0 → status ≢ 15 → used ≡ 0
+  pub faultless : status < 15 → fault ≡ no_details
+  pub details : status ≡ 15 → fault ≡ details fault.component 0 0
 
 -- A buffer to which a text was written, cut to fit, with a 0 after it; the rest is unchanged.
 abbrev pub printed : List ℕ → List ℕ → List ℕ

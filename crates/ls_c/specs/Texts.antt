@@ -8,7 +8,7 @@ use Rattle.ls_c.specs.declared.form.JlsrecFault.{JlsrecFault}
 abbrev pub unknown : List ℕ
 unknown = codes "unknown status"
 
--- Of the statuses from 0 on, up to the detail that some of them give. No call returns 15 to 19.
+-- Of the statuses from 0 on, up to the detail that some of them give. No call returns 16 to 19.
 abbrev pub words : List (List ℕ)
 words =
     codes "done"
@@ -26,7 +26,8 @@ words =
     ∷ codes "bad presets: T3"
     ∷ codes "bad presets: RESET"
     ∷ codes "maxval is over 255"
-    ∷ unknown ∷ unknown ∷ unknown ∷ unknown ∷ unknown
+    ∷ codes "not strict"
+    ∷ unknown ∷ unknown ∷ unknown ∷ unknown
     ∷ codes "truncated"
     ∷ codes "no SOI"
     ∷ codes "bad segment"

@@ -100,7 +100,8 @@ pub fn details_of(fault: StreamFault) -> JlsrecFault
     }
 }
 
-fn details(component: u32, marker: u32, number: u32) -> JlsrecFault
+/// Returns these details.
+pub fn details(component: u32, marker: u32, number: u32) -> JlsrecFault
     ensures component { result.component ≡ component }
     ensures marker { result.marker ≡ marker }
     ensures number { result.number ≡ number }

@@ -2,15 +2,15 @@
 //!
 //! Its interface is the exported functions. `library/include/jlsrec.h` declares them for C and says what each returns
 //! and leaves in memory; `specs/Calls.antt` says the same, call by call (`IsEncoding`, `IsDecoding`, `IsReading`,
-//! `IsExtent`, `IsExtents`), in terms of the forms and rows of `specs/Forms.antt`, the statuses of `specs/Refusals.antt` and the
-//! texts of `specs/Texts.antt`, except that NO_MEMORY is returned if an allocation fails, and only then. In C a slice
-//! is a pointer followed by a count, and `alloc` is no parameter: it stands for the malloc, realloc and free of the
-//! process.
+//! `IsExtent`, `IsExtents`, `IsStrictness`), in terms of the forms and rows of `specs/Forms.antt`, the statuses of
+//! `specs/Refusals.antt` and the texts of `specs/Texts.antt`, except that NO_MEMORY is returned if an allocation fails,
+//! and only then. In C a slice is a pointer followed by a count, and `alloc` is no parameter: it stands for the malloc,
+//! realloc and free of the process.
 //!
 //! In reading order: `form` (the structs shared with C), `refusal` (why a call refuses, and the statuses), `request`
 //! (what is to be encoded, checked before anything is allocated), `coding` (encoding and decoding), `reading` (reading
 //! a form alone), `extent` (the lengths of the next codestreams, and a bound on the length of one of a given form),
-//! `text` (the text of a status).
+//! `strict` (whether data are exactly those that encoding gives), `text` (the text of a status).
 #![tactic(auto)]
 
 mod coding;
@@ -19,6 +19,7 @@ mod form;
 mod reading;
 mod refusal;
 mod request;
+mod strict;
 mod text;
 
 ghost use Rattle.std.specs.Prelude.{◌≡◌, ◌^◌, ◌<◌, ◌≤◌, length};
@@ -26,7 +27,7 @@ ghost use Rattle.std.specs.List.{AllByRecursion};
 ghost use Rattle.ls_frame.specs.Picture.{Picture, IsFrame};
 ghost use Rattle.ls_frame.specs.Parameters.{Parameters, IsLegal};
 ghost use Rattle.ls_stream.specs.Layout.{codestream};
-ghost use Rattle.ls_c.specs.Calls.{IsEncoding, IsDecoding, IsReading, IsExtent, IsExtents, printed};
+ghost use Rattle.ls_c.specs.Calls.{IsEncoding, IsDecoding, IsReading, IsExtent, IsExtents, IsStrictness, printed};
 ghost use Rattle.ls_c.specs.Forms.{bound_of, plain_form, IsOfForm};
 ghost use Rattle.ls_c.specs.Texts.{text_of};
 
@@ -37,6 +38,7 @@ use ls_frame::Samples;
 use reading::read_form;
 use refusal::status_of;
 use std::alloc::Global;
+use strict::check_strict;
 use text::print;
 
 /// Encodes samples of 16 bits into `bytes`. `written` is the number of bytes of the codestream, also if it doesn't fit
@@ -125,8 +127,8 @@ pub extern "C" fn jlsrec_extent(alloc: Global, bytes: &[u8], extent: &mut usize)
 }
 
 /// Sets the first `extents` to the numbers of bytes of the codestreams that stand one after the other at the front of
-/// `bytes`, found by their markers alone; `found` to how many there are; and `fault` to the details of the fault at which
-/// they end. Returns the status, which is 0 if no bytes are left.
+/// `bytes`, found by their markers alone; `found` to how many there are; and `fault` to the details of the fault at
+/// which they end. Returns the status, which is 0 if no bytes are left.
 #[unsafe(no_mangle)]
 pub extern "C" fn jlsrec_extents(
     bytes: &[u8],
@@ -137,6 +139,21 @@ pub extern "C" fn jlsrec_extents(
     ensures { IsExtents bytes.now extents.old extents.new found.new fault.new result }
 {
     status_of(next_extents(bytes, extents, found, fault))
+}
+
+/// Decodes the codestream at the front of `bytes`, and compares the data of its scans with those that encoding gives.
+/// Sets `used` to its number of bytes, and `fault` to the first component that has other data, or to the details of the
+/// first fault. Returns the status, which is 0 if there is neither.
+#[unsafe(no_mangle)]
+pub extern "C" fn jlsrec_strict(
+    alloc: Global,
+    bytes: &[u8],
+    used: &mut usize,
+    fault: &mut JlsrecFault,
+) -> u32
+    ensures { IsStrictness bytes.now used.new fault.new result }
+{
+    check_strict(alloc, bytes, used, fault)
 }
 
 /// Returns an upper bound on the bytes of a codestream of a picture of this form, with any coding parameters, which is

@@ -91,7 +91,8 @@ fn preset_number(fault: PresetFault) -> u32
     }
 }
 
-fn fault_number(fault: StreamFault) -> u32
+/// Returns the status of bytes that can't be decoded; or, of `NoMemory`, that of an allocation that failed.
+pub fn fault_number(fault: StreamFault) -> u32
     ensures { result ≡ fault_number fault }
 {
     match fault {

@@ -32,7 +32,7 @@ const WORDS: [&str; 42] = [
     "bad presets: T3",
     "bad presets: RESET",
     "maxval is over 255",
-    "unknown status",
+    "not strict",
     "unknown status",
     "unknown status",
     "unknown status",

@@ -1,22 +1,20 @@
 -- Where the next codestream ends.
-use Rattle.std.proofs.Common.{◌≡◌, ◌⊎◌, ℕ, ◌+◌, ◌-◌, ◌*◌, ◌<◌, ◌≤◌, Bool, true, false, eqb, ltb, leb, List, [], ◌∷◌, ◌++◌, length, take, drop, inl, inr, Option, None, Some, Result, Ok, Err, refl, sym, ap, subst, ◌∙◌, arith, append_assoc, append-nil, length-append, take-append-drop, length-drop}
+use Rattle.std.proofs.Common.{◌≡◌, ◌⊎◌, ℕ, ◌+◌, ◌-◌, ◌*◌, ◌<◌, ◌≤◌, eqb, ltb, List, [], ◌∷◌, ◌++◌, length, take, drop, inl, inr, Option, None, Some, Ok, Err, refl, sym, ap, subst, ◌∙◌, arith, append_assoc, append-nil, length-append, take-append-drop}
 use Rattle.std.proofs.lemmas.Bool.{cases_Bool, eqb-true, eqb-false, ltb-true, ltb-false}
-use Rattle.std.proofs.lemmas.List.{take_all, take_at, drop_at, take-append-le, length-take}
+use Rattle.std.proofs.lemmas.List.{take_all, take_at, drop_at, length-take}
 use Rattle.ls_frame.specs.Picture.{Picture}
 use Rattle.ls_stream.specs.declared.faults.StreamFault.{StreamFault}
 use Rattle.ls_stream.specs.declared.faults.StreamFault.TheVariants.{Truncated, TooLarge}
 use Rattle.ls_stream.specs.declared.faults.StreamFault.TheVariants as stream_fault
-use Rattle.ls_stream.specs.declared.marker.Marker.{Marker}
 use Rattle.ls_stream.specs.declared.next.awaited.Awaited.{Awaited}
 use Rattle.ls_stream.specs.declared.next.awaited.Awaited.TheVariants as awaited
 use Rattle.ls_stream.specs.declared.next.awaited.Follows.{Follows}
 use Rattle.ls_stream.specs.Markers.{marker_of}
 use Rattle.ls_stream.specs.Grammar.{Spells, most_bytes}
-use Rattle.ls_stream.specs.View.Extents.{Left, extent_at, IsNext, IsUndecided, BeginsEndless}
-use Rattle.ls_stream.specs.View.Places.{read_on, GoesOn, Ends, IsPlaceAfter, follows_of, place_of}
-use Rattle.ls_stream.proofs.StepLemmas.{same_ok, same_fault}
+use Rattle.ls_stream.specs.View.Extents.{extent_at, IsNext}
+use Rattle.ls_stream.specs.View.Places.{GoesOn, Ends, IsPlaceAfter, follows_of, place_of}
+use Rattle.ls_stream.proofs.StepLemmas.{same_ok}
 use Rattle.ls_stream.proofs.BreakLemmas.{no_err}
-use Rattle.ls_stream.proofs.GrownLemmas.{changed, bytes_more, extent_grown}
 use Rattle.ls_stream.proofs.MostLemmas.{first_of}
 use Rattle.ls_stream.proofs.ExtentLemmas.{none_reached, reached_undecided, one_more, ended}
 use Rattle.ls_stream.proofs.ExtentLaws.{spellings_have_extents}

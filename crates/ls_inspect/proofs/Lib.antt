@@ -1,2 +1,5 @@
+pub mod BeginLemmas
 mod EndLemmas
 mod PartLemmas
+mod ScanLemmas
+mod StrictLemmas

@@ -1,2 +1,4 @@
 pub mod Ends
 pub mod Parts
+pub mod Scans
+pub mod Strict

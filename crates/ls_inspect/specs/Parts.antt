@@ -1,5 +1,5 @@
 -- The parts of a codestream after SOI, as their markers tell them: segments, headers of scans, and EOI.
-use Rattle.std.specs.Prelude.{ℕ, List, Option, None, Some, Result, Ok, Err}
+use Rattle.std.specs.Prelude.{ℕ, List, Option, None, Some, Ok, Err}
 use Rattle.ls_stream.specs.declared.faults.StreamFault.TheVariants.{Unsupported}
 use Rattle.ls_stream.specs.declared.faults.What.TheVariants as what
 use Rattle.ls_stream.specs.declared.marker.Marker.{Marker}

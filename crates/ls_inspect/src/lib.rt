@@ -2,10 +2,12 @@
 //! scans are exactly what encoding gives.
 //!
 //! In reading order: `markers` (what surrounds the data of scans, as far as markers tell), `extent` (the size of the
-//! codestream at the front of bytes).
+//! codestream at the front of bytes), `strict` (whether scans have exactly the data that encoding gives).
 #![tactic(auto)]
 
 pub mod extent;
 mod markers;
+pub mod strict;
 
 pub use extent::extent_of;
+pub use strict::{Inspected, inspect};

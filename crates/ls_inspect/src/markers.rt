@@ -1,5 +1,5 @@
-//! What surrounds the data of scans, as far as markers tell (T.87 Annex C; T.81 B.1.1). Each function reads at the front
-//! of bytes, and returns what it read and the bytes that are left, or the first fault of the markers. None of them
+//! What surrounds the data of scans, as far as markers tell (T.87 Annex C; T.81 B.1.1). Each function reads at the
+//! front of bytes, and returns what it read and the bytes that are left, or the first fault of the markers. None of them
 //! allocates.
 ghost use Rattle.std.specs.Prelude.{◌≡◌, ◌+◌, ◌<◌, ◌≤◌, length, IfOk};
 ghost use Rattle.ls_stream.specs.Markers.{code_of, is_application, marker_of};

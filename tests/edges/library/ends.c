@@ -629,9 +629,9 @@ static void strides(void) {
 
 /* ---- decoding, and what else reads bytes */
 
-enum reading { DECODE_8, DECODE_16, READ_FORM, EXTENT, EXTENTS };
+enum reading { DECODE_8, DECODE_16, READ_FORM, EXTENT, EXTENTS, STRICT };
 
-static const char *const reading_names[] = {"decode_8", "decode_16", "read_form", "extent", "extents"};
+static const char *const reading_names[] = {"decode_8", "decode_16", "read_form", "extent", "extents", "strict"};
 
 struct answers {
     uint32_t status;
@@ -647,6 +647,7 @@ static __attribute__((noinline)) void read_bytes(enum reading reading, const voi
     case READ_FORM: CALL(status, jlsrec_read_form(bytes, size, form, fault)); break;
     case EXTENT: CALL(status, jlsrec_extent(bytes, size, used)); break;
     case EXTENTS: CALL(status, jlsrec_extents(bytes, size, samples, room, used, fault)); break;
+    case STRICT: CALL(status, jlsrec_strict(bytes, size, used, fault)); break;
     }
 }
 
@@ -657,7 +658,7 @@ static void reads_at(const char *name, enum reading reading, enum side side, con
     read_bytes(reading, bytes, size, samples, room, form.bytes, used.bytes, fault.bytes);
     bool holds = !caught && status == want->status && kept_after(&form, sizeof(jlsrec_form)) &&
                  kept_after(&fault, sizeof(jlsrec_fault)) && kept_after(&used, sizeof(size_t));
-    if (reading == EXTENT || reading == EXTENTS) holds = holds && kept_after(&form, 0);
+    if (reading == EXTENT || reading == EXTENTS || reading == STRICT) holds = holds && kept_after(&form, 0);
     else holds = holds && !memcmp(form.bytes, &want->form, sizeof want->form);
     if (reading == EXTENT) holds = holds && kept_after(&fault, 0);
     else holds = holds && !memcmp(fault.bytes, &want->fault, sizeof want->fault);
@@ -728,6 +729,9 @@ static void small_counts(void) {
             extents.used = found;
             reads("Annex H.3", EXTENTS, bytes, size, room, &extents, NULL, found);
         }
+        struct answers strict = no_answers(size < sizeof h3 ? JLSREC_TRUNCATED : JLSREC_OK);
+        strict.used = size < sizeof h3 ? 0 : sizeof h3;
+        reads("Annex H.3", STRICT, bytes, size, 0, &strict, NULL, 0);
         struct answers full = {JLSREC_NO_ROOM, h3_form_in_force, no_fault, 0};
         for (size_t room = 0; room < 16; room++)
             for (enum reading r = DECODE_8; r <= DECODE_16; r++)
@@ -914,7 +918,7 @@ static void text_at(uint32_t number, const jlsrec_fault *fault, size_t room, con
 static void texts(void) {
     const uint32_t ends[] = {0, 1, 2, 255, 256, 65535, 65536, END31, END31 + 1, END32 - 1, END32};
     const size_t rooms[] = {0, 1, 2, 63, 64, 65, 66};
-    const uint32_t none[] = {15, 19, 42, 256, 276, 65536, 65556, END31, END31 + 1, END31 + 21, END32 - 1, END32};
+    const uint32_t none[] = {16, 19, 42, 256, 276, 65536, 65556, END31, END31 + 1, END31 + 21, END32 - 1, END32};
     for (size_t r = 0; r < sizeof rooms / sizeof *rooms; r++) {
         for (size_t i = 0; i < sizeof ends / sizeof *ends; i++) {
             for (uint32_t number = 0; number < 44; number++) {
