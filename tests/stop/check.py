@@ -526,7 +526,7 @@ def terminals():
     shown, status = on_a_terminal(80, {}, act, "--window", "64", "--workers", "1", "one")
     whole = camera.end()
     count("Ctrl-C on a terminal", status == 0 and f"one: {whole} frames, stopped" in shown, status, shown)
-    count("Ctrl-C on a terminal: it says that it ends", " frames are still to be coded; a second signal ends at once" in shown, shown)
+    count("Ctrl-C on a terminal: it says that it ends", " frames are still to be coded; another signal ends at once" in shown, shown)
     count("Ctrl-C on a terminal: no fault is told", "read failed" not in shown and "truncated" not in shown, shown)
     count("Ctrl-C on a terminal: what is recorded", whole == 30 and holds("one", camera.frames))
     os.chdir("..")
