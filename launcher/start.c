@@ -9,7 +9,7 @@
    unless it is set. The kit's compiler has no headers, so what is used of the C library and of Linux is declared here. */
 enum { IGNORED = 1, MFD_CLOEXEC = 1, SIG_UNBLOCK = 1, CLOCK_MONOTONIC = 1, SEEK_END = 2, READ_OK = 4, AT_FDCWD = -100 };
 enum { F_DUPFD_CLOEXEC = 1030, TIOCGWINSZ = 0x5413, FOLDER_TO_READ = 02200000, TICKS = 10 };
-enum { SIGHUP = 1, SIGINT = 2, SIGTERM = 15, SIGURG = 23, SIGRTMAX = 64 };
+enum { SIGHUP = 1, SIGINT = 2, SIGTERM = 15, SIGURG = 23, TICK = 60 };
 enum { SYS_write = 1, SYS_close = 3, SYS_lseek = 8, SYS_rt_sigprocmask = 14, SYS_ioctl = 16, SYS_access = 21,
 	SYS_getpid = 39, SYS_fcntl = 72, SYS_gettid = 186, SYS_getdents64 = 217, SYS_timer_create = 222, SYS_timer_settime = 223,
 	SYS_tgkill = 234, SYS_openat = 257, SYS_memfd_create = 319 };
@@ -69,8 +69,8 @@ static void tick(int signal)
 __attribute__((constructor)) static void start(int count, char **words)
 {
 	struct sigaction was, action = { .mask = { -1UL } };
-	struct sigevent event = { .signal = SIGRTMAX };
-	long made, unblocked = 1L << (SIGURG - 1) | 1L << (SIGRTMAX - 1);
+	struct sigevent event = { .signal = TICK };
+	long made, unblocked = 1L << (SIGURG - 1) | 1L << (TICK - 1);
 	unsigned short window[4];
 	char text[64];
 
@@ -91,8 +91,8 @@ __attribute__((constructor)) static void start(int count, char **words)
 	action.handler = interrupt;
 	sigaction(SIGURG, &action, 0);
 	action.handler = tick;
-	sigaction(SIGRTMAX, &action, 0);
-	syscall(SYS_timer_settime, timer, 0, &every_100_ms, 0L);
+	if (sigaction(TICK, &action, 0) || syscall(SYS_timer_settime, timer, 0, &every_100_ms, 0L))
+		return;
 	action.handler = stop;
 	for (int at = 0; at < 3; at++)
 		if (sigaction(stops[at], 0, &was) == 0 && was.handler != (void (*)(int))IGNORED)
