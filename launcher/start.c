@@ -3,7 +3,7 @@
    The environment's JLSREC_STOP is then the path of an empty file in memory, at which the program looks before each read
    of a film. At the first INT, TERM or HUP a byte is written into it. The program may write one, too: that is seen within
    a tenth of a second. Then each thread is interrupted every 10 ms, so that a read that waits fails by EINTR. After a
-   tenth of a second the signals do what they usually do again: a second one ends the program. One that comes sooner is
+   signal and a tenth of a second signals do what they usually do: a second one ends the program. One that comes sooner is
    taken for the same stop, since `timeout`, shells and service managers send two at once. A signal that was ignored stays
    so. If any of this can't be had, no signal is taken. And COLUMNS is set to the terminal's width at standard error,
    unless it is set. The kit's compiler has no headers, so what is used of the C library and of Linux is declared here. */
@@ -25,15 +25,15 @@ int snprintf(char *, unsigned long, const char *, ...);
 
 static const struct period every_100_ms = { { 0, 100000000 }, { 0, 1 } }, every_10_ms = { { 0, 10000000 }, { 0, 1 } };
 static const int stops[] = { SIGHUP, SIGINT, SIGTERM };
-static int is_taken[3], is_stopped, ticks, file, timer;
+static int is_taken[3], is_stopped, is_signalled, ticks, file, timer;
 
 /* The handlers call only what may be called in one, and leave errno as it was. */
 static void stop(int signal)
 {
 	int error = *__errno_location();
 
-	if (!is_stopped) {
-		is_stopped = signal;
+	is_signalled |= signal != TICK;
+	if (!is_stopped++) {
 		syscall(SYS_write, file, "s", 1L);
 		syscall(SYS_timer_settime, timer, 0, &every_10_ms, 0L);
 	}
@@ -59,7 +59,7 @@ static void tick(int signal)
 				syscall(SYS_tgkill, process, thread, SIGURG);
 		}
 	syscall(SYS_close, folder);
-	if (is_stopped && ++ticks == TICKS)
+	if (is_signalled && ++ticks == TICKS)
 		for (at = 0; at < 3; at++)
 			if (is_taken[at])
 				sigaction(stops[at], &(struct sigaction){ 0 }, 0);
