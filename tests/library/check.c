@@ -673,10 +673,10 @@ static void faults(const char *folder) {
     memcpy(loose, colour, sizeof colour);
     loose[42] |= 0x10;
     count(strict_is(loose, sizeof colour, JLSREC_NOT_STRICT, sizeof colour, (jlsrec_fault){1, 0, 0}), "other padding of green");
-    /* EOI alone is no codestream, nor is a comment's end before a byte D9 */
+    /* EOI alone is no codestream, nor is a comment's end before a byte 0xD9 */
     const uint8_t lone_end[] = {0xFF, 0xD9}, comment[] = {0xFF, 0xD8, 0xFF, 0xFE, 0, 3, 0xFF, 0xD9};
     count(jlsrec_extents(lone_end, 2, extents, 2, &found, &fault) == JLSREC_NO_SOI && found == 0, "EOI alone");
-    count(jlsrec_extents(comment, 8, extents, 2, &found, &fault) == JLSREC_BAD_SEGMENT && found == 0, "FF of a comment, and D9");
+    count(jlsrec_extents(comment, 8, extents, 2, &found, &fault) == JLSREC_BAD_SEGMENT && found == 0, "0xFF of a comment, and 0xD9");
     count(jlsrec_decode_8(two + used, sizeof black, sample, 1, &form, &used, &fault) == JLSREC_OK && sample[0] == 255, "the second");
     two[0] = 0;
     count(jlsrec_decode_8(two, 2 * sizeof black, sample, 1, &form, &used, &fault) == JLSREC_NO_SOI, "a second after a fault");
