@@ -5,13 +5,14 @@ _jlsrec_dicom() {
     local options=--help
     case $command in
     '')
-        mapfile -t COMPREPLY < <(compgen -W 'to-film to-dicom compress restore verify --help' -- "$word")
+        mapfile -t COMPREPLY < <(compgen -W 'to-film to-dicom compress restore verify --help --version' -- "$word")
         return
         ;;
     to-film) options+=' --offset' ;;
     to-dicom) options+=' --extended' ;;
-    compress) options+=' --jobs --dask --second --reread --report' ;;
-    restore | verify) options+=' --jobs --dask --report' ;;
+    compress) options+=' --jobs --dask --second --strict --reread --report' ;;
+    restore) options+=' --jobs --dask --report' ;;
+    verify) options+=' --jobs --dask --strict --report' ;;
     esac
     case $before in
     --jobs | --dask) COMPREPLY=() ;;

@@ -17,10 +17,10 @@ _jlsrec() {
         options+=' --count --for --keep-open --sync'
         ;;
     play) options+=' --frames --salvage --index --workers' ;;
-    verify) options+=' --workers' ;;
+    verify) options+=' --workers --strict' ;;
     index) options+=' --no-sums' ;;
     code) options+=' --index' ;;
-    check) options+=' --index --workers' ;;
+    check) options+=' --index --workers --strict' ;;
     replay) options+=' --sources --capacity' ;;
     esac
     case $before in

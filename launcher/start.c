@@ -1,14 +1,13 @@
 /* What the program does before its `main`, for the command `record` alone: it has signals stop a recording.
-
-   The environment's JLSREC_STOP is then the path of an empty file in memory, at which the program looks before each read
-   of a film. At the first INT, TERM or HUP a byte is written into it. The program may write one, too: that is seen within
-   a tenth of a second. Then each thread is interrupted every 10 ms, so that a read that waits fails by EINTR. After a
-   signal and a tenth of a second signals do what they usually do: a second one ends the program. One that comes sooner is
-   taken for the same stop, since `timeout`, shells and service managers send two at once. A signal that was ignored stays
-   so. If any of this can't be had, no signal is taken. And COLUMNS is set to the terminal's width at standard error,
-   unless it is set. The kit's compiler has no headers, so what is used of the C library and of Linux is declared here. */
+   JLSREC_STOP in the environment is then the path of an empty file in memory, at which the program looks before each read
+   of a film. The first INT, TERM or HUP writes a byte into it; if the program makes it longer, that is seen within a tenth
+   of a second. Then each thread is interrupted every 10 ms, so that a read that waits fails by EINTR. After a signal and a
+   tenth of a second signals do what they usually do: a second one ends the program. One that comes sooner is taken for the
+   same stop, since `timeout`, shells and service managers send two at once. A signal that was ignored stays so. If any of
+   this can't be had, no signal is taken. COLUMNS is set to the terminal's width at standard error, unless it is set. There
+   are no headers: what is used of the C library and of Linux is declared here. */
 enum { IGNORED = 1, MFD_CLOEXEC = 1, SIG_UNBLOCK = 1, CLOCK_MONOTONIC = 1, SEEK_END = 2, READ_OK = 4, AT_FDCWD = -100 };
-enum { F_DUPFD_CLOEXEC = 1030, TIOCGWINSZ = 0x5413, FOLDER_TO_READ = 02200000, TICKS = 10 };
+enum { F_DUPFD_CLOEXEC = 1030, TIOCGWINSZ = 0x5413, FOLDER_TO_READ = 02200000, SEEK_SET = 0, TICKS = 10 };
 enum { SIGHUP = 1, SIGINT = 2, SIGTERM = 15, SIGURG = 23, TICK = 60 };
 enum { SYS_write = 1, SYS_close = 3, SYS_lseek = 8, SYS_rt_sigprocmask = 14, SYS_ioctl = 16, SYS_access = 21,
 	SYS_getpid = 39, SYS_fcntl = 72, SYS_gettid = 186, SYS_getdents64 = 217, SYS_timer_create = 222, SYS_timer_settime = 223,
@@ -25,7 +24,7 @@ int snprintf(char *, unsigned long, const char *, ...);
 
 static const struct period every_100_ms = { { 0, 100000000 }, { 0, 1 } }, every_10_ms = { { 0, 10000000 }, { 0, 1 } };
 static const int stops[] = { SIGHUP, SIGINT, SIGTERM };
-static int is_taken[3], is_stopped, is_signalled, ticks, file, timer;
+static int is_taken[3], is_stopped, is_signalled, ticks, file, tasks, timer;
 
 /* The handlers call only what may be called in one, and leave errno as it was. */
 static void stop(int signal)
@@ -47,18 +46,17 @@ static void tick(int signal)
 {
 	_Alignas(struct dirent) char list[2048];
 	int error = *__errno_location();
-	long folder, size, at, thread, process = syscall(SYS_getpid), own = syscall(SYS_gettid);
+	long size, at, thread, process = syscall(SYS_getpid), own = syscall(SYS_gettid);
 
 	if (!is_stopped && syscall(SYS_lseek, file, 0L, SEEK_END) > 0)
 		stop(signal);
-	folder = is_stopped ? syscall(SYS_openat, AT_FDCWD, "/proc/self/task", FOLDER_TO_READ, 0L) : -1;
-	while (folder >= 0 && (size = syscall(SYS_getdents64, folder, list, sizeof list)) > 0)
+	syscall(SYS_lseek, tasks, 0L, SEEK_SET);
+	while (is_stopped && (size = syscall(SYS_getdents64, tasks, list, sizeof list)) > 0)
 		for (at = 0; at < size; at += ((struct dirent *)(list + at))->length) {
 			thread = atoi(((struct dirent *)(list + at))->name);
 			if (thread > 0 && thread != own)
 				syscall(SYS_tgkill, process, thread, SIGURG);
 		}
-	syscall(SYS_close, folder);
 	if (is_signalled && ++ticks == TICKS)
 		for (at = 0; at < 3; at++)
 			if (is_taken[at])
@@ -79,9 +77,11 @@ __attribute__((constructor)) static void start(int count, char **words)
 		return;
 	if (syscall(SYS_ioctl, 2L, TIOCGWINSZ, window) == 0 && window[1] > 0 && snprintf(text, sizeof text, "%d", window[1]) > 0)
 		setenv("COLUMNS", text, 0);
-	/* Its number is above those of the standard streams, of which some may be closed. */
-	made = syscall(SYS_memfd_create, "stop", MFD_CLOEXEC);
-	file = syscall(SYS_fcntl, made, F_DUPFD_CLOEXEC, 3L);
+	/* They are open from the start, when there are descriptors left, above the standard streams: these may be closed. */
+	file = syscall(SYS_fcntl, made = syscall(SYS_memfd_create, "stop", MFD_CLOEXEC), F_DUPFD_CLOEXEC, 3L);
+	syscall(SYS_close, made);
+	made = syscall(SYS_openat, AT_FDCWD, "/proc/self/task", FOLDER_TO_READ, 0L);
+	tasks = syscall(SYS_fcntl, made, F_DUPFD_CLOEXEC, 3L);
 	syscall(SYS_close, made);
 	snprintf(text, sizeof text, "/proc/self/fd/%d", file);
 	if (syscall(SYS_access, text, READ_OK) || syscall(SYS_timer_create, CLOCK_MONOTONIC, &event, &timer) ||

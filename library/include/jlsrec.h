@@ -15,7 +15,7 @@
  *   - no call is made from a signal handler, or in the child of a fork of a process with threads.
  *
  * Samples are ordered by rows from the top, by pixels from the left within a row, and by components (red, green, blue)
- * within a pixel. */
+ * within a pixel; but the calls with `planes` in their names have all rows of one component before those of the next. */
 #ifndef JLSREC_H
 #define JLSREC_H
 
@@ -40,7 +40,7 @@ enum jlsrec_status {
     JLSREC_BAD_SIZE = 4,          /* width or height isn't 1 to 65535 */
     JLSREC_TOO_MANY_SAMPLES = 5,  /* width * height * components is over 2^28 */
     JLSREC_BAD_MAXVAL = 6,        /* maxval isn't 1 to 65535 */
-    JLSREC_BAD_STRIDE = 7,        /* the stride isn't 0 and is less than a row */
+    JLSREC_BAD_STRIDE = 7,        /* the stride isn't 0 and is less than a row, or, in bytes, splits a sample */
     JLSREC_TOO_FEW_SAMPLES = 8,   /* the buffer ends before the last row does */
     JLSREC_SAMPLE_TOO_LARGE = 9,  /* a sample is over maxval */
     JLSREC_BAD_T1 = 10,           /* T1 isn't 1 to maxval (Table C.2), after each 0 was replaced by its default */
@@ -120,6 +120,18 @@ uint32_t jlsrec_encode_8(const jlsrec_form *form, const uint8_t *samples, size_t
 uint32_t jlsrec_encode_16(const jlsrec_form *form, const uint16_t *samples, size_t count, size_t stride, uint8_t *bytes,
                           size_t room, size_t *written);
 
+/* Encodes a picture of which all samples of a component, row by row, stand before those of the next one.
+ *
+ *   stride   the number of bytes from the start of a row to the start of the next, also from the last row of a
+ *            component to the first of the next one; 0 stands for width times the size of a sample
+ *
+ * All else is as for jlsrec_encode_8 and jlsrec_encode_16: the codestream is the same as of the picture's samples in
+ * their order, and so are the statuses. If the stride is that of rows without gaps, the samples aren't copied. */
+uint32_t jlsrec_encode_planes_8(const jlsrec_form *form, const uint8_t *samples, size_t count, size_t stride,
+                                uint8_t *bytes, size_t room, size_t *written);
+uint32_t jlsrec_encode_planes_16(const jlsrec_form *form, const uint16_t *samples, size_t count, size_t stride,
+                                 uint8_t *bytes, size_t room, size_t *written);
+
 /* Reads the headers at the front of `count` bytes: SOI, the frame header, the coding parameters and the first scan's
  * header.
  *
@@ -156,6 +168,22 @@ uint32_t jlsrec_decode_8(const uint8_t *bytes, size_t count, uint8_t *samples, s
                          jlsrec_fault *fault);
 uint32_t jlsrec_decode_16(const uint8_t *bytes, size_t count, uint16_t *samples, size_t room, jlsrec_form *form,
                           size_t *used, jlsrec_fault *fault);
+
+/* Decodes the codestream at the front of `count` bytes to samples that stand as jlsrec_encode_planes_8 and
+ * jlsrec_encode_planes_16 read them.
+ *
+ *   stride   the number of bytes from the start of a row to the start of the next, as there
+ *
+ * All else is as for jlsrec_decode_8 and jlsrec_decode_16, with these differences:
+ * JLSREC_OK: samples between rows are unchanged too.
+ * JLSREC_BAD_STRIDE, or JLSREC_NO_ROOM: everything before the data of the first scan is valid, and describes a picture
+ * of *form that has no more than `room` samples, but the stride isn't 0 and is less than a row or splits a sample, or
+ * else the last row ends after `room` samples. The data may be faulty, *used is 0, *fault is all 0, and `samples` is
+ * unchanged. */
+uint32_t jlsrec_decode_planes_8(const uint8_t *bytes, size_t count, uint8_t *samples, size_t room, size_t stride,
+                                jlsrec_form *form, size_t *used, jlsrec_fault *fault);
+uint32_t jlsrec_decode_planes_16(const uint8_t *bytes, size_t count, uint16_t *samples, size_t room, size_t stride,
+                                 jlsrec_form *form, size_t *used, jlsrec_fault *fault);
 
 /* For checkers: decodes the codestream at the front of `count` bytes, and compares the data of its scans with those
  * that encoding its picture with its parameters gives. After the bits of a component's samples decoding accepts up to

@@ -12,6 +12,8 @@ A recording is a file of many: `write` writes one, `Writer` frame by frame, and 
 
     with jlsrec.Writer("night.jls", maxval=4095, index=True) as writer:
         for array in camera: writer.append(array)
+    with jlsrec.Writer("night.jls", maxval=4095, index=True, append=True) as writer:
+        writer.append(another)
     hundred = jlsrec.Recording("night.jls", index=True).read(slice(0, 100), workers=4)
 
 The library is the one in the package or below the same prefix, or that of the checkout, for this machine's processor.
@@ -24,6 +26,7 @@ from __future__ import annotations
 
 import contextlib
 import ctypes
+import errno
 import itertools
 import mmap
 import operator
@@ -38,7 +41,7 @@ from typing import Any, Dict, NamedTuple, Optional, Tuple, Union, overload
 import numpy as np
 
 from . import _library
-from ._files import GrowingFile, NewFile, Reading, RecordingChanged
+from ._files import GrowingFile, NewFile, Reading, RecordingChanged, is_same
 from ._index import Index, Line, WrongIndex, header_of, line_of
 from ._library import JlsrecError
 
@@ -50,12 +53,17 @@ __all__ = [
     "RecordingChanged",
     "Writer",
     "WrongIndex",
+    "check_strict",
     "decode",
     "encode",
     "library_version",
     "read_header",
     "write",
 ]
+
+# As they are named by those who import them.
+for _each in (JlsrecError, RecordingChanged, WrongIndex):
+    _each.__module__ = __name__
 
 Preset = Tuple[int, int, int, int]
 Data = Union[bytes, bytearray, memoryview, mmap.mmap, np.ndarray]
@@ -67,6 +75,8 @@ WINDOW = 1 << 18
 HEAD = 1 << 12
 # Hardly any codestream has fewer bytes, and so many are looked for at once.
 LEAST, MANY = 32, 1 << 14
+# How a codestream begins: SOI, and the first byte of another marker. In the data of a scan this can't stand.
+SOI = b"\xff\xd8\xff"
 
 BYTE, WORD = np.dtype(np.uint8), np.dtype(np.uint16)
 
@@ -137,17 +147,18 @@ def encode(array: np.ndarray, maxval: Optional[int] = None, preset: Optional[Pre
     call = getattr(_library.library(), f"jlsrec_encode_{bits}")
     room = _room(_library.library().jlsrec_bound(components, width, height, most))
     written = ctypes.c_size_t()
-    _library.check(
-        call(
-            ctypes.byref(form),
-            array.ctypes.data,
-            count,
-            stride,
-            room.ctypes.data,
-            room.size,
-            ctypes.byref(written),
-        )
+    status = call(
+        ctypes.byref(form),
+        array.ctypes.data,
+        count,
+        stride,
+        room.ctypes.data,
+        room.size,
+        ctypes.byref(written),
     )
+    if status == _library.SAMPLE_TOO_LARGE:
+        raise JlsrecError(status, _library.Fault()).naming(f"{array.max()} is over {most}")
+    _library.check(status)
     return room[: written.value].tobytes()
 
 
@@ -159,10 +170,28 @@ def decode(data: Data, out: Optional[np.ndarray] = None) -> np.ndarray:
     out: the array that the picture is decoded into, of its shape, contiguous and writable: uint16, or uint8 where maxval
     is at most 255. Without it a new one is made. It is what is returned.
 
-    Raises JlsrecError with the first fault of the data, TypeError for other data, ValueError if out doesn't fit,
-    MemoryError if an allocation fails. After an error the contents of out are unspecified.
+    Raises JlsrecError with the first fault of the data, TypeError for other data or another out than an array, ValueError
+    if out doesn't fit, MemoryError if an allocation fails. After an error the contents of out are unspecified.
     """
     return _decode(_bytes_of(data), out)[0]
+
+
+def check_strict(data: Data) -> int:
+    """Checks that the codestream at the front of data is exactly what encoding its picture gives; how many bytes it has.
+
+    For checkers: after the samples of a component decode accepts up to 15 further bits of any value, which encode never
+    writes. So a bit that changed there isn't noticed by decode. Segments, as of comments, and fill bytes aren't compared.
+
+    data: as for decode.
+
+    Raises JlsrecError for other data in a scan, whose status is then 15 and whose component is the first such; and with
+    the first fault of the data as decode does. TypeError for other data, MemoryError if an allocation fails.
+    """
+    given = _bytes_of(data)
+    fault, used = _library.Fault(), ctypes.c_size_t()
+    status = _library.library().jlsrec_strict(_address(given), len(given), ctypes.byref(used), ctypes.byref(fault))
+    _library.check(status, fault)
+    return used.value
 
 
 def read_header(data: Data) -> Header:
@@ -228,6 +257,9 @@ class Recording(Sequence):
     def close(self) -> None:
         """Closes the files. Decoded frames stay valid."""
         self._files = None
+
+    def __repr__(self) -> str:
+        return f"<jlsrec.Recording {os.fsdecode(self.path)!r}>"
 
     def __enter__(self) -> "Recording":
         self._opened()
@@ -338,12 +370,12 @@ class Recording(Sequence):
 
     def _span(self, index: int) -> "_Place":
         """Where the codestream of a frame is. Raises IndexError if there is no such frame."""
-        index = operator.index(index)
+        index = given = operator.index(index)
         if index < 0:
             index += len(self)
         place = self._place(index) if index >= 0 else None
         if place is None:
-            raise IndexError("no such frame")
+            raise IndexError(f"no such frame: {given}")
         return place
 
     def _frame(self, place: "_Place", index: int, out: Optional[np.ndarray] = None) -> np.ndarray:
@@ -406,7 +438,7 @@ class Recording(Sequence):
         if len(numbers) > 0 or out is None:
             header = self._header_for(numbers[0] if len(numbers) > 0 else 0)
             out = _fitting(out, (len(numbers), *header.shape), header.dtype)
-        elif out.shape[:1] != (0,):
+        elif _array(out).shape[:1] != (0,):
             raise ValueError(f"out must have no frame, and is {out.shape}")
         _Filling(self, numbers, out, max(1, min(workers, len(numbers)))).run()
         return out
@@ -715,12 +747,19 @@ class Writer:
     has all frames at once, puts a recording to its place only when it is complete.)
 
     If a frame can't be appended, append() raises the error, recording and index are as they were before, and others can
-    be appended. If the `with` block raises an error, the frames before it stay, as with close(); if there were none, the
-    files are removed. PATH is locked (flock) until it is closed, so that `write` and `jlsrec record` leave it alone.
+    be appended. If the `with` block raises an error, the frames before it stay, as with close(); a new recording without
+    frames is removed. PATH is locked (flock) until it is closed, so that `write` and `jlsrec record` leave it alone.
+
+    A recording that is there is never written over, and only with `append=True` continued:
+
+        with jlsrec.Writer("night.jls", maxval=4095, index=True, append=True, repair=True) as writer: ...
+
+    goes on after its last frame, whoever wrote it. What stands there is never changed, but for what `repair=True` cuts
+    off: the beginning of a last codestream, or of a line of the index, as a process that is killed leaves it.
 
     Threads may share a writer: they encode side by side, and frames are numbered as their calls come to write them.
 
-    path: the recording's file, as a Path. frames: how many were appended.
+    path: the recording's file, as a Path. frames: how many frames the recording has.
     """
 
     def __init__(
@@ -729,33 +768,90 @@ class Writer:
         maxval: Optional[int] = None,
         preset: Optional[Preset] = None,
         index: Union[Name, bool, None] = None,
+        append: bool = False,
+        repair: bool = False,
     ) -> None:
-        """Makes an empty recording.
+        """Makes an empty recording, or continues one.
 
-        path: its file. maxval and preset: of each frame, as for encode.
+        path: its file. maxval and preset: of each frame that is appended, as for encode; those of frames that are there
+        aren't looked at.
         index: the file of an index, or True for PATH.index, as `jlsrec record --index` writes it: the line of each
-        codestream, once the codestream is written. By default there is none.
+        codestream, once the codestream is written. By default there is none, and one that is there stays as it is.
+        append: whether a recording that is at PATH is continued. Its frames are found as Recording finds them, by all of
+        their markers, or by the index that is named: that must be the recording's, by its last line, and may be of a front
+        of it; lines that it lacks are added, with sums if the others have them. Where there is no recording, or no index, a
+        new one is made.
+        repair: whether what was torn is cut off when a recording is continued: the beginning of a codestream after the last
+        frame, with zeros behind it perhaps; a last line of the index that isn't complete, and lines of frames that aren't
+        there any more. Without it that is an error, whose text says how many bytes it is. Nothing else is ever cut off:
+        where frames may stand behind damage, and where the rest isn't JPEG-LS at all, it is an error still.
 
-        Raises FileExistsError if one of the files exists, which is never written over, and another OSError if one can't be
-        made. Then there is no new file.
+        Raises FileExistsError if one of the files exists and append isn't set; BlockingIOError if another program is
+        writing one of them, and another OSError if one can't be made or written; JlsrecError for a recording that can't be
+        continued, and WrongIndex for an index that isn't its. Then there is no new file, and an earlier recording is as it
+        was.
         """
+        if repair and not append:
+            raise ValueError("only a recording that is continued is repaired: repair=True wants append=True")
         self.path = Path(path)
         self.frames = 0
         self._options = (maxval, preset)
         self._lock = threading.RLock()
-        self._file: Optional[GrowingFile] = GrowingFile(path)
+        self._lines: Optional[GrowingFile] = None
+        self._has_sums = True
+        self._file: Optional[GrowingFile] = GrowingFile(path, append)
         try:
-            wanted = index is not None and index is not False
-            self._lines = GrowingFile(_index_name(path, index)) if wanted else None
+            if index is not None and index is not False:
+                name = _index_name(path, index)
+                if append and is_same(path, name):
+                    raise WrongIndex(os.fsdecode(name), 0, "it is the recording itself")
+                self._lines = GrowingFile(name, append)
+            if append:
+                self._go_on(repair)
         except BaseException:
-            self._file.drop()
+            self._drop()
             raise
+
+    def _go_on(self, repair: bool) -> None:
+        """Goes on after the frames that are there. Nothing is cut off before all of it was looked at."""
+        file, lines = self._file, self._lines
+        index = None if lines is None else Index(lines.path)
+        is_ahead = index is not None and index.end > file.count
+        if index is not None:
+            _check_torn_index(index, is_ahead, repair)
+        with Recording(self.path, None if index is None or is_ahead else index.path) as film:
+            if not film._opened()[0].is_of(file.made) or index is not None and not index.is_of(lines.made):
+                raise RecordingChanged(errno.ESTALE, "another file was put in its place", os.fsdecode(self.path))
+            if index is not None:
+                _check_last_line(film, index)
+            self.frames, end = len(film), film._found.end
+            if end < file.count:
+                _check_rest(film, repair)
+            if index is not None:
+                self._has_sums = index.has_sums
+                if lines.count > index.start_of(self.frames):
+                    lines.cut(index.start_of(self.frames))
+                    lines.sync()
+                for number in range(index.count, self.frames):
+                    self._list(number, film._span(number).start, film.data(number))
+        if end < file.count:
+            file.cut(end)
+            file.sync()
+
+    def _list(self, number: int, start: int, data: bytes) -> None:
+        """Adds the line of a codestream to the index."""
+        try:
+            form = _form(data)
+        except JlsrecError as error:
+            raise error.of_frame(number) from None
+        self._lines.append(line_of(number, start, form, data, self._has_sums))
 
     def append(self, array: np.ndarray) -> int:
         """Appends a frame, and answers its number, from 0.
 
-        Raises what encode raises for the array, OSError if it can't be written, and ValueError after close(). The
-        recording and its index are then as they were before.
+        Raises what encode raises for the array, OSError if it can't be written, RecordingChanged if a program that heeds no
+        lock has changed the size of the recording or its index, and ValueError after close(). Both are then as they were
+        before.
         """
         self._opened()
         data = encode(array, *self._options)
@@ -763,10 +859,13 @@ class Writer:
             file, number, start = self._opened(), self.frames, self._file.count
             lines = self._lines
             listed = lines.count if lines is not None else 0
+            for each in (file, lines):
+                if each is not None:
+                    each.check()
             try:
                 file.append(data)
                 if lines is not None:
-                    lines.append(line_of(number, start, _form(data), data))
+                    self._list(number, start, data)
                 self.frames = number + 1
             except BaseException:
                 # The line first: an index never has more than its recording.
@@ -800,6 +899,9 @@ class Writer:
             raise ValueError(f"{self.path}: the recording was closed")
         return self._file
 
+    def __repr__(self) -> str:
+        return f"<jlsrec.Writer {os.fsdecode(self.path)!r}>"
+
     def __enter__(self) -> "Writer":
         self._opened()
         return self
@@ -807,11 +909,75 @@ class Writer:
     def __exit__(self, kind: object, *error: object) -> None:
         with self._lock:
             if kind is not None and self.frames == 0 and self._file is not None:
-                file, self._file = self._file, None
-                if self._lines is not None:
-                    self._lines.drop()
-                file.drop()
+                self._drop()
         self.close()
+
+    def _drop(self) -> None:
+        """Closes the files, and removes those that were made here."""
+        file, self._file = self._file, None
+        if self._lines is not None:
+            self._lines.drop()
+        file.drop()
+
+
+def _check_torn_index(index: Index, is_ahead: bool, repair: bool) -> None:
+    """Raises WrongIndex if an index has a last line that isn't complete, or lines of more than its recording has."""
+    if repair:
+        return
+    if not index.is_complete:
+        raise WrongIndex(index.path, index.count, "it isn't complete; repair=True cuts it off")
+    if is_ahead:
+        raise WrongIndex(index.path, index.count - 1, "the recording ends before; repair=True cuts such lines off")
+
+
+def _check_last_line(film: Recording, index: Index) -> None:
+    """Raises WrongIndex if the last line that an index has of a recording's frames isn't of the codestream there."""
+    count = index.count
+    if film._opened()[1] is None:
+        count = min(count, len(film))
+    if count == 0:
+        return
+    line = index.line(count - 1)
+    place = film._span(count - 1)
+    if (line.start, line.end) != (place.start, place.end):
+        raise line.wrong(f"the codestream there has {place.end - place.start} bytes at {place.start}")
+    place._replace(line=line).read()
+
+
+def _check_rest(film: Recording, repair: bool) -> None:
+    """Raises JlsrecError unless what stands after a recording's frames was torn, and is to be cut off.
+
+    Torn is what a process that is killed leaves, or a machine that fails: the front of a codestream, and zeros behind it.
+    It is none if another codestream may stand in it, as after damage to a segment's length.
+    """
+    file, start = film._walk(), film._found.end
+    end = _end_before_zeros(file, start)
+    if end == start:
+        is_torn = len(film) > 0
+    elif film._torn or end - start <= WINDOW:
+        front = file.read(start, end)
+        is_open = _Window(0, front).extents(0, 1)[1] == _fault_of(front)[0] == _library.TRUNCATED
+        is_torn = is_open and front.find(SOI, 2) < 0
+    else:
+        is_torn = False
+    if is_torn and repair:
+        return
+    error = film.fault.of_frame(len(film))
+    offer = f": {file.size - start} bytes at {start}, which were torn; repair=True cuts them off" if is_torn else ""
+    error.args = (f"{film.path}: {error}{offer}",)
+    raise error
+
+
+def _end_before_zeros(file: Reading, start: int) -> int:
+    """Where a file's bytes from a place on end, but for zeros at its end."""
+    end = file.size
+    while end > start:
+        first = max(start, end - WINDOW)
+        block = file.read(first, end).rstrip(b"\0")
+        if block:
+            return first + len(block)
+        end = first
+    return start
 
 
 def _note(error: BaseException, text: str) -> None:
@@ -881,7 +1047,7 @@ def _bytes_of(data: Data) -> Bytes:
         if data.dtype != np.uint8 or data.ndim != 1 or not data.flags.c_contiguous:
             raise TypeError("data in an array must be contiguous uint8 of one dimension")
         return data
-    return np.frombuffer(data, np.uint8) if len(data) > 0 else b""
+    return np.frombuffer(data, np.uint8) if memoryview(data).nbytes > 0 else b""
 
 
 def _address(data: Bytes) -> Union[bytes, int]:
@@ -919,11 +1085,18 @@ def _header_in(columns: bytes) -> Header:
     return Header(width, height, 1 if kind == b"gray" else 3, maxval, tuple(preset))
 
 
+def _array(out: object) -> np.ndarray:
+    """What is to be decoded into. Raises TypeError if that isn't an array."""
+    if not isinstance(out, np.ndarray):
+        raise TypeError(f"out must be an array, and is {type(out).__name__}")
+    return out
+
+
 def _fitting(out: Optional[np.ndarray], shape: tuple[int, ...], kind: np.dtype) -> np.ndarray:
-    """The array that samples of a shape and a type are decoded into. Raises ValueError if out doesn't fit."""
+    """The array that samples of a shape and a type are decoded into. Raises TypeError or ValueError if out doesn't fit."""
     if out is None:
         return np.empty(shape, kind)
-    if out.shape != shape or out.dtype not in (WORD, kind):
+    if _array(out).shape != shape or out.dtype not in (WORD, kind):
         raise ValueError(f"out must be {shape} of {kind}, and is {out.shape} of {out.dtype}")
     if not (out.flags.c_contiguous and out.flags.writeable and out.flags.aligned):
         raise ValueError("out must be contiguous and writable")

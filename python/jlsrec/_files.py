@@ -37,13 +37,9 @@ class Reading:
         """Opens a file. Raises OSError if it can't be opened, or can't be read at any place, as a pipe."""
         self._number = -1
         self.path = os.fsdecode(path)
-        # Looked at first, since the opening and closing of a pipe would end what writes to it.
-        mode = os.stat(path).st_mode
-        if stat.S_ISDIR(mode):
-            raise IsADirectoryError(errno.EISDIR, os.strerror(errno.EISDIR), self.path)
-        if not stat.S_ISREG(mode):
-            raise OSError(errno.ESPIPE, "not a regular file", self.path)
-        self._number = os.open(path, os.O_RDONLY | os.O_CLOEXEC)
+        with naming(self.path):
+            check_regular(path)
+            self._number = os.open(path, os.O_RDONLY | os.O_CLOEXEC)
         opened = os.fstat(self._number)
         # How much is seen of it, and what stands there first and last: set together, since threads read meanwhile.
         self._seen = opened.st_size, self._read_edges(opened.st_size)
@@ -57,6 +53,10 @@ class Reading:
     def size(self) -> int:
         """How many bytes are seen of it."""
         return self._seen[0]
+
+    def is_of(self, made: os.stat_result) -> bool:
+        """Whether this is the file that was found so."""
+        return os.path.samestat(os.fstat(self._number), made)
 
     def refresh(self) -> None:
         """Sees what was appended since. Raises RecordingChanged if what was seen of it isn't as it was."""
@@ -171,7 +171,7 @@ class NewFile:
         if earlier is None:
             self.part, self.number = self._beside(0o666)
             return
-        os.close(self._locked())
+        os.close(open_locked(self._place))
         self.earlier = earlier.st_size
         mode = stat.S_IMODE(earlier.st_mode)
         self.part, self.number = self._beside(mode)
@@ -189,22 +189,6 @@ class NewFile:
             with contextlib.suppress(FileExistsError):
                 return part, os.open(part, os.O_WRONLY | os.O_CREAT | os.O_EXCL | os.O_CLOEXEC, mode)
         raise AssertionError("there is always another number")
-
-    def _locked(self) -> int:
-        """Opens the earlier file and locks it. Raises OSError if it may not be written, or if another holds its lock."""
-        number = os.open(self._place, os.O_WRONLY | os.O_NONBLOCK | os.O_CLOEXEC)
-        try:
-            if not stat.S_ISREG(os.fstat(number).st_mode):
-                raise OSError(errno.EEXIST, "not a regular file any more")
-            fcntl.flock(number, fcntl.LOCK_EX | fcntl.LOCK_NB)
-        except OSError as error:
-            if isinstance(error, BlockingIOError):
-                os.close(number)
-                raise BlockingIOError(error.errno, "another program is writing it") from None
-            if error.errno not in LACKING:
-                os.close(number)
-                raise
-        return number
 
     def named(self) -> contextlib.AbstractContextManager[None]:
         """Gives an error of the system the name that the caller gave the file."""
@@ -237,7 +221,7 @@ class NewFile:
             sync_folder(os.path.dirname(self._place))
 
     def _rename(self) -> None:
-        number = self._locked() if os.path.exists(self._place) else -1
+        number = open_locked(self._place) if os.path.exists(self._place) else -1
         try:
             os.rename(self.part, self._place)
         finally:
@@ -302,49 +286,82 @@ class NewFile:
 
 
 class GrowingFile:
-    """A new file at its place, to which bytes are appended, and which others may read meanwhile.
+    """A file at its place, to which bytes are appended, and which others may read meanwhile.
 
-    It is never made over an existing file, and is locked (flock) until it is closed, as `jlsrec record` does.
+    It is a new one, or, only if that is asked for, one that is there. It is locked (flock) until it is closed, as
+    `jlsrec record` does.
     """
 
-    def __init__(self, path: Name) -> None:
-        """Makes the file. Raises FileExistsError if there is one."""
+    def __init__(self, path: Name, append: bool = False) -> None:
+        """Makes the file. With append the one that is there is opened, if there is one, to go on at its end.
+
+        Raises FileExistsError if there is one and append isn't set, BlockingIOError if another program holds its lock,
+        and another OSError if it isn't a regular file or may not be written.
+        """
         self._number = -1
         self.path = os.fsdecode(path)
         # Of a name that begins at the working folder, which may change meanwhile.
         self._place = os.path.abspath(self.path)
-        # How many bytes were appended.
-        self.count = 0
         with naming(self.path):
-            self._number = os.open(self._place, os.O_WRONLY | os.O_CREAT | os.O_EXCL | os.O_CLOEXEC, 0o666)
-            self._made = os.fstat(self._number)
+            self._number = self._open() if append else -1
+            # Whether it was made here.
+            self.is_new = self._number < 0
+            if self.is_new:
+                self._number = os.open(self._place, os.O_WRONLY | os.O_CREAT | os.O_EXCL | os.O_CLOEXEC, 0o666)
+                lock(self._number)
+            self.made = os.fstat(self._number)
+            # How many bytes it has, and whether others may stand after them that weren't written whole.
+            self.count = os.lseek(self._number, 0, os.SEEK_END)
+            self._is_torn = False
+
+    def _open(self) -> int:
+        """Opens the file that is there, locked; -1 if there is none. If it was replaced meanwhile, the other one is opened."""
+        while True:
             try:
-                fcntl.flock(self._number, fcntl.LOCK_EX | fcntl.LOCK_NB)
-            except OSError as error:
-                if error.errno not in LACKING:
-                    raise
+                check_regular(self._place)
+                number = open_locked(self._place)
+            except FileNotFoundError:
+                return -1
+            if is_at(os.path.realpath(self._place), os.fstat(number)):
+                return number
+            os.close(number)
 
     def __del__(self) -> None:
         self._close()
 
+    def check(self) -> None:
+        """Raises RecordingChanged if another program has changed the size of the file: it can't be gone on with then."""
+        if not self._is_torn and os.fstat(self._number).st_size != self.count:
+            raise RecordingChanged(errno.ESTALE, "another program has changed its size", self.path)
+
     def append(self, data: bytes) -> None:
-        """Appends bytes. If not all of them can be written, some may be there, which cut removes."""
-        with naming(self.path):
-            write_all(self._number, data)
+        """Appends bytes, all or none."""
+        if self._is_torn:
+            self.cut(self.count)
+        self._is_torn = True
+        try:
+            with naming(self.path):
+                write_all(self._number, data)
+        except BaseException:
+            self.cut(self.count)
+            raise
         self.count += len(data)
+        self._is_torn = False
 
     def cut(self, count: int) -> None:
         """Ends the file after the first bytes. If the system refuses that, the next bytes come there, or sync does it."""
-        self.count = count
+        self.count, self._is_torn = count, True
         with contextlib.suppress(OSError):
             os.lseek(self._number, count, os.SEEK_SET)
             os.ftruncate(self._number, count)
+            self._is_torn = False
 
     def sync(self) -> None:
         """Waits until the bytes, and the file's name, are on the disk."""
         with naming(self.path):
-            if os.fstat(self._number).st_size > self.count:
+            if self._is_torn and os.fstat(self._number).st_size > self.count:
                 os.ftruncate(self._number, self.count)
+            self._is_torn = False
             sync(self._number)
             sync_folder(os.path.dirname(self._place))
 
@@ -356,9 +373,9 @@ class GrowingFile:
             self._close()
 
     def drop(self) -> None:
-        """Closes the file and removes it."""
+        """Closes the file, and removes it if it was made here."""
         self._close()
-        if is_at(self._place, self._made):
+        if self.is_new and is_at(self._place, self.made):
             os.unlink(self._place)
 
     def _close(self) -> None:
@@ -376,6 +393,45 @@ def naming(path: str) -> Iterator[None]:
         if error.errno is None:
             raise
         raise OSError(error.errno, error.strerror, path) from None
+
+
+def check_regular(path: Name) -> None:
+    """Raises OSError if what is at a path isn't a regular file.
+
+    It is looked at before it is opened, since the opening and closing of a pipe would end what writes to it.
+    """
+    mode = os.stat(path).st_mode
+    if stat.S_ISDIR(mode):
+        raise IsADirectoryError(errno.EISDIR, os.strerror(errno.EISDIR))
+    if not stat.S_ISREG(mode):
+        raise OSError(errno.ESPIPE, "not a regular file")
+
+
+def lock(number: int) -> None:
+    """Locks a file, where its file system can do that. Raises BlockingIOError if another holds the lock."""
+    try:
+        fcntl.flock(number, fcntl.LOCK_EX | fcntl.LOCK_NB)
+    except BlockingIOError as error:
+        raise BlockingIOError(error.errno, "another program is writing it") from None
+    except OSError as error:
+        if error.errno not in LACKING:
+            raise
+
+
+def open_locked(place: str) -> int:
+    """Opens an existing file to write it, and locks it.
+
+    Raises OSError if it may not be written or isn't a regular file any more, and BlockingIOError if another holds its lock.
+    """
+    number = os.open(place, os.O_WRONLY | os.O_NONBLOCK | os.O_CLOEXEC)
+    try:
+        if not stat.S_ISREG(os.fstat(number).st_mode):
+            raise OSError(errno.EEXIST, "not a regular file any more")
+        lock(number)
+    except BaseException:
+        os.close(number)
+        raise
+    return number
 
 
 def is_at(path: str, made: os.stat_result) -> bool:

@@ -3,6 +3,7 @@
 from __future__ import annotations
 
 import hashlib
+import os
 import re
 from typing import NamedTuple, Optional
 
@@ -68,10 +69,11 @@ class Line(NamedTuple):
 
 
 class _Page(NamedTuple):
-    """Lines of an index that follow one another, and the number of the first."""
+    """Lines of an index that follow one another, the number of the first, and where it begins."""
 
     first: int
     lines: list[bytes]
+    start: int
 
 
 class Index:
@@ -86,12 +88,22 @@ class Index:
         self._file = Reading(path)
         self.path = self._file.path
         # How many lines there are, where the codestream of the last one ends, and where the line itself does.
-        self.count = self.end = self._size = 0
-        self._page = _Page(0, [])
+        self.count = self.end = self.size = 0
+        self._page = _Page(0, [], 0)
         # The line that was asked for last, and where its codestream ends.
         self._last = -1, 0
-        self._has_sums = False
+        # Whether lines have sums: all have, or none.
+        self.has_sums = True
         self._look()
+
+    @property
+    def is_complete(self) -> bool:
+        """Whether it ends with a complete line."""
+        return self.size == self._file.size
+
+    def is_of(self, made: os.stat_result) -> bool:
+        """Whether this is the file that was found so."""
+        return self._file.is_of(made)
 
     def refresh(self) -> None:
         """Looks for lines that were added. Raises RecordingChanged if the file isn't as it was, but for these."""
@@ -101,7 +113,7 @@ class Index:
     def _look(self) -> None:
         """Finds the last complete line."""
         size = self._file.size
-        data = self._file.read(max(self._size, size - _BLOCK), size)
+        data = self._file.read(max(self.size, size - _BLOCK), size)
         stop = data.rfind(b"\n") + 1
         if not _BEGUN.fullmatch(data, stop):
             raise self._wrong(self._number_at(size - len(data) + stop))
@@ -112,7 +124,7 @@ class Index:
         if found is None or int(found[1]) < self.count or int(found[2]) < self.end:
             raise self._wrong(self._number_at(size - len(data) + begin))
         self.count, self.end = int(found[1]) + 1, int(found[2]) + int(found[3])
-        self._size, self._has_sums = size - len(data) + stop, found[5] is not None
+        self.size, self.has_sums = size - len(data) + stop, found[5] is not None
 
     def _number_at(self, place: int) -> int:
         """How many lines end before a place."""
@@ -139,26 +151,37 @@ class Index:
         return line
 
     def _fields(self, number: int) -> tuple[bytes, ...]:
-        first, lines = self._page
-        if not 0 <= number - first < len(lines):
-            first, lines = self._page = self._page_of(number)
+        first, lines, _ = self._at(number)
         found = _LINE.fullmatch(lines[number - first])
-        if found is None or int(found[1]) != number or (found[5] is not None) != self._has_sums:
+        if found is None or int(found[1]) != number or (found[5] is not None) != self.has_sums:
             raise self._wrong(number)
         return found.groups()
 
+    def start_of(self, number: int) -> int:
+        """Where the line of this number begins in the index; that of the first that there isn't, where the last ends."""
+        if number >= self.count:
+            return self.size
+        first, lines, start = self._at(number)
+        return start + sum(len(each) + 1 for each in lines[: number - first])
+
+    def _at(self, number: int) -> _Page:
+        """Lines among which one of this number is, kept for the next ones."""
+        if not 0 <= number - self._page.first < len(self._page.lines):
+            self._page = self._page_of(number)
+        return self._page
+
     def _page_of(self, number: int) -> _Page:
         """Lines among which one of this number is, found by where it would be if all lines were equally long."""
-        low, first, high, after = 0, 0, self._size, self.count
+        low, first, high, after = 0, 0, self.size, self.count
         while low < high and first <= number < after:
             start = max(low, low + (high - low) * (number - first) // (after - first) - _BLOCK // 2)
-            data = self._file.read(start, min(start + _BLOCK, self._size))
+            data = self._file.read(start, min(start + _BLOCK, self.size))
             begin = 0 if start == low else data.find(b"\n") + 1
             lines = data[begin:].split(b"\n")[:-1]
             head = re.match(_NUMBER + b" ", lines[0]) if lines else None
             if head is None:
                 break
-            page = _Page(int(head[1]), lines)
+            page = _Page(int(head[1]), lines, start + begin)
             if page.first <= number < page.first + len(lines):
                 return page
             if number >= page.first:
@@ -192,7 +215,7 @@ def columns_of(form: _library.Form, data: bytes) -> bytes:
     return b"%b %d %d %d %d %d %d %d %d" % (kind, *numbers)
 
 
-def line_of(number: int, start: int, form: _library.Form, data: bytes) -> bytes:
-    """The line of a codestream, with LF at its end."""
-    digest = hashlib.sha256(data).hexdigest().encode()
-    return b"%d %d %d %b %b\n" % (number, start, len(data), columns_of(form, data), digest)
+def line_of(number: int, start: int, form: _library.Form, data: bytes, has_sum: bool) -> bytes:
+    """The line of a codestream, with its sum or without, and LF at its end."""
+    line = b"%d %d %d %b" % (number, start, len(data), columns_of(form, data))
+    return b"%b %b\n" % (line, hashlib.sha256(data).hexdigest().encode()) if has_sum else line + b"\n"

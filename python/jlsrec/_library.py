@@ -16,6 +16,8 @@ NO_ROOM = 2
 BAD_SIZE = 4
 BAD_MAXVAL = 6
 BAD_PRESET = (10, 11, 12, 13)
+SAMPLE_TOO_LARGE = 9
+NOT_STRICT = 15
 TRUNCATED = 20
 TOO_LARGE = 39
 # Of JPEG-LS that isn't decoded, and isn't damaged for that: UNSUPPORTED_MARKER to LSE_ID, and an LSE segment of a later scan.
@@ -63,9 +65,9 @@ class JlsrecError(ValueError):
         """So that it can be pickled, as one that is raised in another process is, and copied."""
         return _error_again, (type(self), self.args, self.__dict__)
 
-    def naming(self, number: int) -> JlsrecError:
-        """The same error, whose text ends with the number that is at fault."""
-        self.args = (f"{self}: {number}",)
+    def naming(self, fault: object) -> JlsrecError:
+        """The same error, whose text ends with what is at fault, as a number."""
+        self.args = (f"{self}: {fault}",)
         return self
 
     def of_frame(self, number: int) -> JlsrecError:
@@ -165,6 +167,7 @@ _CALLS = {
     "jlsrec_decode_16": (_number, _address, _size, _address, _size, _form, _count, _fault),
     "jlsrec_read_form": (_number, _address, _size, _form, _fault),
     "jlsrec_extent": (_number, _address, _size, _count),
+    "jlsrec_strict": (_number, _address, _size, _count, _fault),
     "jlsrec_extents": (_number, _address, _size, _address, _size, _count, _fault),
     "jlsrec_text": (_size, _number, _fault, _address, _size),
     "jlsrec_version": (_number,),

@@ -212,6 +212,48 @@ for number in ["0", "17", "x", ""]:
 told = "jlsrec: one.jls: only decoded: no index is named\n"
 says(0, "one.jls: 1 frames, 0 damaged\n", told, "check", "--workers", "1", "one.jls")
 
+# ---- codestreams that can be decoded and aren't exactly what encoding gives
+
+black, colour = BLACK[0], COLOUR[0]
+padded = (black[:25] + bytes([black[25] | 1]) + black[26:], BLACK[1], BLACK[2])
+longer = (black[:26] + b"\x00" + black[26:], BLACK[1], BLACK[2])
+green = (colour[:42] + bytes([colour[42] | 0x10]) + colour[43:], COLOUR[1], COLOUR[2])
+
+
+def strictness(frames, loose):
+    """Cases of a check and a comparison: so many frames aren't strict, each by its component."""
+    write("loose.jls", recording(frames))
+    write("loose.pgm", film(frames))
+    write("loose.index", index_of(frames).encode())
+    said = "".join(f"jlsrec: loose.jls: frame {frame}: not strict: the scan of component {component}\n" for frame, component in loose)
+    total = f"loose.jls: {len(frames)} frames, 0 damaged\n"
+    alone = "jlsrec: loose.jls: only decoded: no index is named\n"
+    for words, told in [([], alone), (["--index", "loose.index"], ""), (["--workers", "3", "--index", "loose.index"], "")]:
+        says(0, total, told, "check", *words, "loose.jls")
+        says(1 if loose else 0, total, told + said, "check", "--strict", *words, "loose.jls")
+    says(0, "", "", "verify", "loose.pgm", "loose.jls")
+    says(1 if loose else 0, "", said, "verify", "--strict", "loose.pgm", "loose.jls")
+
+
+strictness([], [])
+strictness(MIXED, [])
+strictness([padded], [(0, 0)])
+strictness([longer, BLACK], [(0, 0)])
+strictness([BLACK, green, WHITE, padded, longer, BLACK], [(1, 1), (3, 0), (4, 0)])
+strictness([BLACK] * 50 + [padded] + [WHITE] * 50 + [green], [(50, 0), (101, 1)])
+# If something else is wrong, it isn't looked for.
+write("loose.jls", recording([padded, BROKEN]))
+write("loose.pgm", film([padded, BLACK]))
+write("loose.index", index_of([padded, BROKEN]).encode())
+found = "frame 1: bad code in component 0: 28 bytes at 28\nloose.jls: 2 frames, 1 damaged\n"
+says(1, found, "", "check", "--strict", "--index", "loose.index", "loose.jls")
+says(1, "", "jlsrec: loose.jls: frame 1: bad code in component 0\n", "verify", "--strict", "loose.pgm", "loose.jls")
+# What can't be read twice is refused before anything is read.
+os.mkfifo("pipe.jls")
+for words in [("check", "--strict", "pipe.jls"), ("verify", "--strict", "loose.pgm", "pipe.jls")]:
+    says(1, "", "jlsrec: pipe.jls: can't be read twice, as --strict asks for\n", *words)
+says(1, "", "jlsrec: no.jls: can't open\n", "check", "--strict", "no.jls")
+
 # ---- films and their recordings
 
 def verdict(frames, others, said):

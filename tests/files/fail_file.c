@@ -1,7 +1,8 @@
 /* Has one call of the program that it is preloaded into go wrong, counted from 1: FAIL_OPEN=N the open number N, and likewise FAIL_RENAME,
    FAIL_LINK, FAIL_UNLINK, FAIL_WRITE, FAIL_SYNC, FAIL_LOCK, FAIL_CLOSE and FAIL_TRUNCATE. It fails by the system's error of the number
-   ERROR, or else by EIO. FAIL_SYNC_OF=NAME fails each fsync of a file whose path ends with NAME. The opening of / isn't counted, the
-   folder that stands in the place of a closed stream. In place of that
+   ERROR, or else by EIO. FAIL_SYNC_OF=NAME fails each fsync of a file whose path ends with NAME, and with SLOW_SYNC=SECONDS each fsync
+   takes so long. The openings of / and below /proc aren't counted: the folder that stands in the place of a closed stream, and the file
+   of a stop, which isn't there in each program. In place of that
      KILL=before   kills the program before the call,
      KILL=after    kills it after the call,
      KILL=power    kills it before the call, and cuts each file that was written to back to what was synced of it,
@@ -22,6 +23,7 @@
 #include <string.h>
 #include <sys/stat.h>
 #include <sys/syscall.h>
+#include <time.h>
 #include <unistd.h>
 
 #define NEXT(name) ((__typeof__(&name))dlsym(RTLD_NEXT, #name))
@@ -135,7 +137,8 @@ static void tell(const char *what, int file)
 
 int open(const char *path, int flags, ...)
 {
-	enum fate fate = strcmp(path, "/") == 0 ? GOES_ON : fate_of("FAIL_OPEN", &opens);
+	int is_own = strcmp(path, "/") == 0 || strncmp(path, "/proc/", 6) == 0;
+	enum fate fate = is_own ? GOES_ON : fate_of("FAIL_OPEN", &opens);
 	va_list more;
 	mode_t mode;
 
@@ -199,12 +202,23 @@ static void remember_synced(const struct stat *file)
 		}
 }
 
+/* Waits as long as SLOW_SYNC says, whatever signals come: a wait for a disk isn't interrupted. */
+static void wait_for_disk(void)
+{
+	const char *seconds = getenv("SLOW_SYNC");
+	struct timespec left = { seconds ? atoi(seconds) : 0, 0 };
+
+	while (nanosleep(&left, &left) != 0)
+		;
+}
+
 static int synced_by(int (*sync)(int), int file)
 {
 	enum fate fate;
 	struct stat status;
 
 	tell("sync", file);
+	wait_for_disk();
 	fate = fate_of("FAIL_SYNC", &syncs);
 	if (is_named("FAIL_SYNC_OF", file)) {
 		errno = EIO;

@@ -150,6 +150,18 @@ static uint32_t decode(bool eight, const uint8_t *bytes, size_t count, void *sam
                  : jlsrec_decode_16(bytes, count, samples, room, form, used, fault);
 }
 
+static uint32_t encode_planes(bool eight, const jlsrec_form *form, const void *samples, size_t count, size_t stride,
+                              uint8_t *bytes, size_t room, size_t *written) {
+    return eight ? jlsrec_encode_planes_8(form, samples, count, stride, bytes, room, written)
+                 : jlsrec_encode_planes_16(form, samples, count, stride, bytes, room, written);
+}
+
+static uint32_t decode_planes(bool eight, const uint8_t *bytes, size_t count, void *samples, size_t room, size_t stride,
+                              jlsrec_form *form, size_t *used, jlsrec_fault *fault) {
+    return eight ? jlsrec_decode_planes_8(bytes, count, samples, room, stride, form, used, fault)
+                 : jlsrec_decode_planes_16(bytes, count, samples, room, stride, form, used, fault);
+}
+
 static bool same_form(const jlsrec_form *a, const jlsrec_form *b) { return !memcmp(a, b, sizeof *a); }
 
 /* The form with the default of each coding parameter that it leaves open (T.87 C.2.4.1.1). */
@@ -350,6 +362,82 @@ static void *spread(bool eight, const struct picture *p, size_t stride, size_t *
     return all;
 }
 
+/* ---- planes */
+
+/* Puts the picture's samples plane by plane, with so many bytes from row to row, of which those between rows stay. */
+static void put_planes(bool eight, const struct picture *p, size_t stride, uint8_t *planes) {
+    uint32_t width = p->form.width, height = p->form.height, components = p->form.components;
+    for (size_t c = 0; c < components; c++)
+        for (size_t y = 0; y < height; y++)
+            for (size_t x = 0; x < width; x++) {
+                size_t place = (y * width + x) * components + c;
+                uint8_t *at = planes + (c * height + y) * stride + x * (eight ? 1 : 2);
+                if (eight) *at = p->small[place];
+                else memcpy(at, p->samples + place, 2);
+            }
+}
+
+/* Planes with so many samples more from row to row than a row has, in and out. */
+static void planes(bool eight, const char *name, unsigned number, const struct picture *p, const jlsrec_form *asked,
+                   const uint8_t *want, size_t need, size_t more) {
+    size_t size = eight ? 1 : 2, lines = (size_t)p->form.height * p->form.components, row = p->form.width, written;
+    size_t stride = (row + more) * size, many = (lines - 1) * (row + more) + row, said = more ? stride : 0;
+    struct guarded from = guarded(many * size), out = guarded(need);
+    put_planes(eight, p, stride, from.bytes);
+    bool same = encode_planes(eight, asked, from.bytes, many, said, out.bytes, need, &written) == JLSREC_OK;
+    count(same && written == need && !memcmp(out.bytes, want, need) && kept_after(&out, need), "%s, frame %u: planes, %zu more", name,
+          number, more);
+    free(out.all);
+
+    out = guarded(need);
+    count(encode_planes(eight, asked, from.bytes, many, said, out.bytes, need - 1, &written) == JLSREC_NO_ROOM && written == need &&
+              kept_after(&out, 0),
+          "%s, frame %u: planes, %zu more, no room", name, number, more);
+    count(encode_planes(eight, asked, from.bytes, many - 1, said, out.bytes, need, &written) == JLSREC_TOO_FEW_SAMPLES &&
+              written == 0 && kept_after(&out, 0),
+          "%s, frame %u: planes, %zu more, a sample less", name, number, more);
+    size_t bad[] = {(row - 1) * size, stride + 1};
+    for (size_t i = 0; i < 2; i++)
+        if (i == 0 ? row > 1 : !eight)
+            count(encode_planes(eight, asked, from.bytes, many, bad[i], out.bytes, need, &written) == JLSREC_BAD_STRIDE &&
+                      written == 0 && kept_after(&out, 0),
+                  "%s, frame %u: planes, stride %zu", name, number, bad[i]);
+    free(out.all);
+
+    jlsrec_form form, wanted = in_force(asked);
+    jlsrec_fault fault;
+    size_t used, rooms[] = {many + 9, many, many - 1, p->count - 1};
+    for (size_t i = 0; i < 4; i++) {
+        struct guarded back = guarded(rooms[i] * size);
+        uint32_t status = decode_planes(eight, want, need, back.bytes, rooms[i], said, &form, &used, &fault);
+        bool holds = same_form(&form, &wanted) && !memcmp(&fault, &no_fault, sizeof fault);
+        if (rooms[i] < many)
+            holds = holds && status == JLSREC_NO_ROOM && used == 0 && kept_after(&back, 0);
+        else {
+            struct guarded all = guarded(rooms[i] * size);
+            put_planes(eight, p, stride, all.bytes);
+            holds = holds && status == JLSREC_OK && used == need && !memcmp(back.all, all.all, rooms[i] * size + 2 * GUARD);
+            free(all.all);
+        }
+        count(holds, "%s, frame %u: to planes, %zu more, room %zu of %zu", name, number, more, rooms[i], many);
+        free(back.all);
+    }
+    for (size_t i = 0; i < 2; i++)
+        if (i == 0 ? row > 1 : !eight) {
+            struct guarded back = guarded(many * size);
+            count(decode_planes(eight, want, need, back.bytes, many, bad[i], &form, &used, &fault) == JLSREC_BAD_STRIDE &&
+                      used == 0 && same_form(&form, &wanted) && !memcmp(&fault, &no_fault, sizeof fault) && kept_after(&back, 0),
+                  "%s, frame %u: to planes, stride %zu", name, number, bad[i]);
+            free(back.all);
+        }
+    struct guarded back = guarded(many * size);
+    uint32_t status = decode_planes(eight, want, need - 1, back.bytes, many, said, &form, &used, &fault);
+    count(status == JLSREC_TRUNCATED && used == 0 && same_form(&form, &no_form) && kept_after(&back, more ? 0 : many * size),
+          "%s, frame %u: to planes, %zu more, truncated", name, number, more);
+    free(back.all);
+    free(from.all);
+}
+
 static void film(const char *name, const char *coded_name, char **presets) {
     struct bytes images = read_file(name), coded = read_file(coded_name);
     size_t at = 0, from = 0;
@@ -370,6 +458,16 @@ static void film(const char *name, const char *coded_name, char **presets) {
             if (eight && p.form.maxval > 255) {
                 struct guarded out = guarded(need);
                 size_t written = 1;
+                count(encode_planes(true, &asked, samples, p.count, 1, out.bytes, need, &written) == JLSREC_NOT_8_BITS &&
+                          written == 0 && kept_after(&out, 0),
+                      "%s, frame %u: planes, not 8 bits", name, number);
+                jlsrec_form form, wanted = in_force(&asked);
+                jlsrec_fault fault;
+                size_t used = 1;
+                count(decode_planes(true, want, need, out.bytes, 0, 1, &form, &used, &fault) == JLSREC_NOT_8_BITS && used == 0 &&
+                          same_form(&form, &wanted) && kept_after(&out, 0),
+                      "%s, frame %u: to planes, not 8 bits", name, number);
+                written = 1;
                 count(encode(true, &asked, samples, p.count, 0, out.bytes, need, &written) == JLSREC_NOT_8_BITS &&
                           written == 0 && kept_after(&out, 0),
                       "%s, frame %u: not 8 bits", name, number);
@@ -398,6 +496,7 @@ static void film(const char *name, const char *coded_name, char **presets) {
                 free(out.all);
                 free(others);
             }
+            for (size_t more = 0; more < 4; more += 1 + more) planes(eight, name, number, &p, &asked, want, need, more);
             size_t rooms[] = {0, 1, p.count - 1, p.count, p.count + 1, p.count + 100};
             for (size_t i = 0; i < sizeof rooms / sizeof *rooms; i++)
                 count(decodes(eight, want, left, need, &p, &asked, rooms[i]), "%s, frame %u: decoded, room %zu", name, number, rooms[i]);
@@ -706,7 +805,7 @@ static void texts(void) {
     says(JLSREC_BAD_SIZE, no_fault, "a side isn't 1 to 65535");
     says(JLSREC_TOO_MANY_SAMPLES, no_fault, "over 2^28 samples");
     says(JLSREC_BAD_MAXVAL, no_fault, "maxval isn't 1 to 65535");
-    says(JLSREC_BAD_STRIDE, no_fault, "the stride is less than a row");
+    says(JLSREC_BAD_STRIDE, no_fault, "the stride is less than a row or splits a sample");
     says(JLSREC_TOO_FEW_SAMPLES, no_fault, "fewer samples than the form asks for");
     says(JLSREC_SAMPLE_TOO_LARGE, no_fault, "a sample is over maxval");
     says(JLSREC_BAD_T1, no_fault, "bad presets: T1");
@@ -800,6 +899,42 @@ static void memory(const char *name) {
         free(out.all);
     }
     count(tries > 2, "%s: %zu requests of decoding", name, tries);
+    for (size_t more = 0; more < 2; more++) {
+        size_t size = eight ? 1 : 2, stride = (p.form.width + more) * size;
+        size_t many = p.count + more * ((size_t)p.form.height * p.form.components - 1);
+        struct guarded from = guarded(many * size);
+        put_planes(eight, &p, stride, from.bytes);
+        tries = 0;
+        requests = 1;
+        for (uint32_t status; requests >= tries && tries < 1000;) {
+            struct guarded out = guarded(room);
+            size_t said = 7;
+            requests = 0;
+            refused_request = ++tries;
+            status = encode_planes(eight, &p.form, from.bytes, many, stride, out.bytes, room, &said);
+            refused_request = 0;
+            if (status == JLSREC_OK) count(said == written && !memcmp(out.bytes, coded, written), "%s: planes encoded", name);
+            else count(status == JLSREC_NO_MEMORY && said == 0 && kept_after(&out, 0), "%s: request %zu of encoding planes", name, tries);
+            free(out.all);
+        }
+        count(tries > 2 + more, "%s: %zu requests of encoding planes", name, tries);
+        tries = 0;
+        for (uint32_t status = JLSREC_NO_MEMORY; status != JLSREC_OK && tries < 1000;) {
+            struct guarded out = guarded(many * size);
+            jlsrec_form form;
+            jlsrec_fault fault;
+            requests = 0;
+            refused_request = ++tries;
+            status = decode_planes(eight, coded, written, out.bytes, many, stride, &form, &used, &fault);
+            refused_request = 0;
+            if (status == JLSREC_OK) count(used == written && !memcmp(out.bytes, from.bytes, many * size), "%s: planes decoded", name);
+            else count(status == JLSREC_NO_MEMORY && used == 0 && same_form(&form, &no_form) && !memcmp(&fault, &no_fault, sizeof fault) && kept_after(&out, 0),
+                       "%s: request %zu of decoding planes", name, tries);
+            free(out.all);
+        }
+        count(tries > 2 + more, "%s: %zu requests of decoding planes", name, tries);
+        free(from.all);
+    }
     tries = 0;
     for (uint32_t status = JLSREC_NO_MEMORY; status != JLSREC_OK && tries < 1000;) {
         requests = 0;

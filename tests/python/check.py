@@ -122,13 +122,32 @@ for name, data in {"bytearray": bytearray(EXAMPLE_CODED), "memoryview": memoryvi
 
 refuses("signed samples", TypeError, "uint8 or uint16", jlsrec.encode, plane.astype(np.int16))
 refuses("a stack of planes", TypeError, "(height, width)", jlsrec.encode, np.zeros((2, 4, 4), np.uint8))
-refuses("a sample over maxval", jlsrec.JlsrecError, "maxval", jlsrec.encode, plane, 100)
+refuses("a sample over maxval", jlsrec.JlsrecError, f"maxval: {plane.max()} is over 100", jlsrec.encode, plane, 100)
+for name, call in {"decode": jlsrec.decode, "read_header": jlsrec.read_header, "check_strict": jlsrec.check_strict}.items():
+    refuses(f"{name} of a name", TypeError, "bytes-like", call, "film.jls")
+    refuses(f"{name} of nothing", TypeError, "bytes-like", call, None)
+refuses("a list to decode into", TypeError, "an array", jlsrec.decode, EXAMPLE_CODED, [[0] * 4] * 4)
+for each in (jlsrec.JlsrecError, jlsrec.WrongIndex, jlsrec.RecordingChanged):
+    case(f"{each.__name__} is named as it is imported", each.__module__ == "jlsrec")
 refuses("no row", jlsrec.JlsrecError, "side", jlsrec.encode, np.zeros((0, 4), np.uint8))
 refuses("a preset out of range", jlsrec.JlsrecError, "T1", jlsrec.encode, plane, 4095, (5000, 0, 0, 0))
 refuses("no bytes", jlsrec.JlsrecError, "truncated", jlsrec.decode, b"")
 refuses("no codestream", jlsrec.JlsrecError, "SOI", jlsrec.decode, b"P5 1 1 255 x")
 refuses("a codestream cut off", jlsrec.JlsrecError, "truncated", jlsrec.decode, EXAMPLE_CODED[:-9])
 refuses("a header cut off", jlsrec.JlsrecError, "truncated", jlsrec.read_header, EXAMPLE_CODED[:20])
+
+# ---- what decoding accepts and encoding never writes
+
+three = jlsrec.encode(np.stack([EXAMPLE, EXAMPLE[::-1], EXAMPLE.T], axis=2))
+for name, data in {"the standard's example": EXAMPLE_CODED, "a colour picture": three, "one of 12 bits": jlsrec.encode(plane, 4095)}.items():
+    case(f"{name} is strict", jlsrec.check_strict(data) == jlsrec.check_strict(bytearray(data + b"more")) == len(data))
+    loose = data[:-2] + b"\0" + data[-2:]
+    case(f"{name} with bits more is decoded", (jlsrec.decode(loose) == jlsrec.decode(data)).all())
+    error = refuses(f"{name} with bits more", jlsrec.JlsrecError, "strict", jlsrec.check_strict, loose)
+    case(f"{name} with bits more: where", (error.status, error.component) == (15, 2 if name == "a colour picture" else 0))
+refuses("not strict, but damaged", jlsrec.JlsrecError, "truncated", jlsrec.check_strict, EXAMPLE_CODED[:-9])
+refuses("not strict, but no codestream", jlsrec.JlsrecError, "SOI", jlsrec.check_strict, b"P5 1 1 255 x")
+refuses("not strict, but no bytes", TypeError, "uint8", jlsrec.check_strict, plane)
 
 
 def decode_all(codestreams: list[bytes]) -> list[np.ndarray]:
@@ -196,8 +215,10 @@ case("the program plays it", played == b"".join(b"P5\n64 48\n4095\n" + a.astype(
 recording = jlsrec.Recording("nine.jls")
 case("by index", (recording[7] == arrays[7]).all() and (recording[-1] == arrays[8]).all())
 case("by slice", all((a == b).all() for a, b in zip(recording[2:8:3], arrays[2:8:3])) and len(recording[2:8:3]) == 2)
-refuses("past its end", IndexError, "", recording.__getitem__, 9)
-refuses("before its start", IndexError, "", recording.__getitem__, -10)
+refuses("past its end", IndexError, "no such frame: 9", recording.__getitem__, 9)
+refuses("before its start", IndexError, "no such frame: -10", recording.__getitem__, -10)
+refuses("a list to read into", TypeError, "an array", recording.read, None, [0])
+case("it says which it is", repr(recording) == "<jlsrec.Recording 'nine.jls'>")
 case("a codestream", recording.data(3) == jlsrec.encode(arrays[3], 4095))
 whole = Path("nine.jls").read_bytes()
 Path("cut.jls").write_bytes(whole[:-40])

@@ -490,6 +490,7 @@ written = [*gray[:20], *colors[:3], arrays[600], gray[0][:, ::2], gray[1].T, gra
 want = [jlsrec.encode(each, 4095) for each in written]
 with jlsrec.Writer("out.jls", 4095, index=True) as writer:
     film, followed = jlsrec.Recording("out.jls"), jlsrec.Recording("out.jls", index=True)
+    case("it says which it is", repr(writer) == "<jlsrec.Writer 'out.jls'>")
     case("nothing yet", len(film) == len(followed) == 0 and film.fault is None and writer.path == Path("out.jls"))
     for k, each in enumerate(written):
         case(f"appended as {k}", writer.append(each) == k and writer.frames == k + 1)

@@ -8,6 +8,7 @@ import fcntl
 import os
 import pty
 import random
+import resource
 import signal
 import struct
 import subprocess
@@ -103,10 +104,12 @@ def wait_for(holds, seconds=20.0):
 
 
 class Recorder:
-    """A recording of these words; its ignored signals are these."""
+    """A recording of these words; its ignored signals are these, and it may have at most so many files open."""
 
-    def __init__(self, *words, ignored=(), **how):
+    def __init__(self, *words, ignored=(), most=None, **how):
         def prepare():
+            if most is not None:
+                resource.setrlimit(resource.RLIMIT_NOFILE, (most, most))
             for stop in STOPS:
                 signal.signal(stop, signal.SIG_IGN if stop in ignored else signal.SIG_DFL)
 
@@ -548,6 +551,29 @@ def terminals():
         os.chdir("..")
 
 
+def few_descriptors():
+    """Where no descriptor is left, a stop ends all the same."""
+    fresh("few_descriptors")
+    runs, recorded = [], 0
+    for most in range(6, 18):
+        for words in ([], ["--for", "1"]):
+            camera = Camera(f"one{most}{len(words)}", [frame(1, 8, 8)])
+            runs.append((most, words, camera, Recorder(*words, camera.name, most=most)))
+            camera.send()
+    time.sleep(0.5)
+    for most, words, camera, recorder in runs:
+        status, out, err, took = recorder.stop(*([] if words else [signal.SIGTERM]))
+        case = f"{most} descriptors {' '.join(words)}:"
+        is_recorded = (status, out) == (0, f"{camera.name}: 1 frames, stopped\n")
+        is_refused = status == 1 and out == "" and ("can't open" in err or "read failed" in err)
+        count(f"{case} status and lines", is_recorded or is_refused, status, out, err)
+        count(f"{case} soon", took < MOST, took)
+        recorded += is_recorded
+        camera.end()
+    count("few descriptors are enough", recorded >= 8, recorded)
+    os.chdir("..")
+
+
 def plain_files():
     fresh("plain")
     frames = [frame(it, 500, 400) for it in range(5)]
@@ -575,6 +601,7 @@ outputs()
 closed_streams()
 services()
 terminals()
+few_descriptors()
 plain_files()
 for moment in range(MOMENTS):
     draw(moment)

@@ -37,7 +37,7 @@ fn main(rt: HostRuntime) -> ExitCode {
     let errors = Counted::new(Patient::new(rt.stderr()));
     let mut console = Console::new(rt.alloc(), errors, is_terminal, columns(&rt));
     let asked = env::var(&rt, STOP).ok();
-    let stop = Stop::new(asked.as_deref());
+    let stop = Stop::open(&rt, asked.as_deref());
     let opener = Opener::new(&rt).stopped_by(&stop);
     ExitCode::from(start(&rt, opener, &mut output, &mut console))
 }

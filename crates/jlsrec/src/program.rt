@@ -85,12 +85,14 @@ where
                     file,
                     index,
                     workers,
-                } => check_recording(program, file, index, workers),
+                    strict,
+                } => check_recording(program, file, index, workers, strict),
                 Request::Verify {
                     film,
                     recording,
                     workers,
-                } => verify_files(program, film, recording, workers),
+                    strict,
+                } => verify_files(program, film, recording, workers, strict),
                 Request::Record(asked) => record_films(program, asked),
                 Request::Replay {
                     sources,

@@ -11,6 +11,7 @@ pub mod IndexLemmas
 pub mod LineLemmas
 pub mod NextLineLemmas
 pub mod PlaceLemmas
+pub mod StrictLemmas
 pub mod VerdictLaws
 pub mod VerdictLemmas
 pub mod VerifyLemmas

@@ -9,4 +9,5 @@ pub mod Followed
 pub mod Following
 pub mod Indexing
 pub mod Places
+pub mod Strict
 pub mod Verifying

@@ -8,7 +8,8 @@
 //! index, line by line, and damage is reported (`specs/View/Checking.antt`, `specs/View/Checks.antt`). Several threads
 //! can decode the recording for a comparison, or look at its codestreams for a check by an index; the result is the
 //! same (`specs/View/Comparing.antt`, `specs/View/Batches.antt`). An index can also be written while its recording is
-//! being written (`specs/View/Following.antt`), as that of a film that is coded (`specs/View/Coded.antt`).
+//! being written (`specs/View/Following.antt`), as that of a film that is coded (`specs/View/Coded.antt`). Codestreams
+//! that can be decoded but aren't exactly what encoding gives are found one after the other (`specs/View/Strict.antt`).
 //!
 //! ```
 //! use ls_archive::{IndexFault, write_index};
@@ -28,10 +29,11 @@
 //! `ls_frame`.
 //!
 //! In reading order: `faults` (why writing an index, or a comparison, stopped), `index` (the lines), `entry` (a
-//! codestream, and what its headers say), `following` (an index that is written with its recording), `coding` (a film that is coded so), `checking` (a
-//! recording and its index: lines are taken in its `batches`, and one thread or several look at their codestreams, in
-//! its `looking`), `places` (codestreams that stand elsewhere than the index says), `verifying` (a film and its
-//! recording), `laws`.
+//! codestream, and what its headers say), `following` (an index that is written with its recording), `coding` (a film
+//! that is coded so), `checking` (a recording and its index: lines are taken in its `batches`, and one thread or several
+//! look at their codestreams, in its `looking`), `places` (codestreams that stand elsewhere than the index says),
+//! `verifying` (a film and its recording), `strict` (whether codestreams have exactly the data that encoding gives),
+//! `laws`.
 #![tactic(auto)]
 
 pub mod checking;
@@ -42,6 +44,7 @@ pub mod following;
 pub mod index;
 pub mod laws;
 pub mod places;
+pub mod strict;
 pub mod verifying;
 
 pub use checking::{CheckFault, Checked, Damage, Finding, Findings, check, check_by};
@@ -50,4 +53,5 @@ pub use faults::{IndexFault, VerifyFault};
 pub use following::{Follower, Indexing};
 pub use index::{index_bytes, write_index};
 pub use places::{Wanted, find_places, read_index};
+pub use strict::{Strict, read_strict};
 pub use verifying::{Difference, Verdict, verify, verify_by, verify_bytes};

@@ -3,10 +3,12 @@ mod DecodingLemmas
 mod EncodingLemmas
 mod ExtentLemmas
 mod ExtentsLemmas
+mod LaidOutLemmas
 mod NumberLemmas
 mod OneOpeningLemmas
 mod OpeningLemmas
 mod PresetLemmas
 mod RowLemmas
+mod SpreadLemmas
 mod StrictLemmas
 mod TextLemmas

@@ -1,5 +1,5 @@
 -- What the exported calls promise.
-use Rattle.std.specs.Prelude.{◌≡◌, ◌≢◌, ◌⊎◌, ◌↔◌, ℕ, ◌<◌, ◌≤◌, nat_le, List, [], ◌∷◌, ◌++◌, length, take, drop, Option, None, Ok, ◌-◌, ◌*◌}
+use Rattle.std.specs.Prelude.{◌≡◌, ◌≢◌, ◌⊎◌, ◌↔◌, ℕ, ◌<◌, ◌≤◌, nat_le, List, [], ◌∷◌, ◌++◌, length, take, drop, Option, None, Some, Ok, ◌-◌, ◌*◌}
 use Rattle.ls_frame.specs.Picture.{Picture, IsFrame, components}
 use Rattle.ls_stream.specs.declared.faults.StreamFault.{StreamFault}
 use Rattle.ls_stream.specs.declared.faults.StreamFault.TheVariants.{NoMemory}
@@ -12,23 +12,24 @@ use Rattle.ls_inspect.specs.Ends.{HasNoEnd}
 use Rattle.ls_inspect.specs.Strict.{SpellsStrictly, SpellsLoosely}
 use Rattle.ls_c.specs.declared.form.JlsrecForm.{JlsrecForm}
 use Rattle.ls_c.specs.declared.form.JlsrecFault.{JlsrecFault}
+use Rattle.ls_c.specs.declared.request.Layout.{Layout}
 use Rattle.ls_c.specs.declared.refusal.Refusal.{Refusal}
 use Rattle.ls_c.specs.declared.refusal.Refusal.TheVariants as refusal
-use Rattle.ls_c.specs.Forms.{unless_met, no_form, picture_in, coded, request_refusal, encode_refusal, IsOfForm}
-use Rattle.ls_c.specs.Refusals.{status_by, fault_number, details, details_of, no_details}
+use Rattle.ls_c.specs.Forms.{unless_met, no_form, row_in, height_in, stride_in, KeepsGaps, picture_in, coded, rows_refusal, request_refusal, encode_refusal, IsOfForm}
+use Rattle.ls_c.specs.Refusals.{number_of, status_by, fault_number, details, details_of, no_details}
 
--- Samples of at most `most`, in rows that start `stride` samples apart, were encoded into a buffer.
-pub record IsEncoding (most : ℕ) (form : JlsrecForm) (stride : ℕ) (samples old new : List ℕ) (written status : ℕ) : Type 0 where
+-- Samples of at most `most`, laid out so, were encoded into a buffer.
+pub record IsEncoding (most : ℕ) (form : JlsrecForm) (layout : Layout) (samples old new : List ℕ) (written status : ℕ) : Type 0 where
   -- the status, unless an allocation failed, which can happen only if everything but the samples' values is right
-  pub status_is : (status ≡ 1) ⊎ (status ≡ status_by (encode_refusal most form stride samples (length old)))
-  pub memory : status ≡ 1 → request_refusal most form stride (length samples) ≡ None
+  pub status_is : (status ≡ 1) ⊎ (status ≡ status_by (encode_refusal most form layout samples (length old)))
+  pub memory : status ≡ 1 → request_refusal most form layout (length samples) ≡ None
   -- status 0: the codestream of the picture is at the front, and the rest of the buffer is unchanged
-  pub frame : status ≡ 0 → IsFrame (picture_in form stride samples)
-  pub spells : status ≡ 0 → Spells (take written new) (picture_in form stride samples)
-  pub done : status ≡ 0 → (written ≡ length (coded form stride samples)) × (new ≡ coded form stride samples ++ drop written old)
+  pub frame : status ≡ 0 → IsFrame (picture_in form layout samples)
+  pub spells : status ≡ 0 → Spells (take written new) (picture_in form layout samples)
+  pub done : status ≡ 0 → (written ≡ length (coded form layout samples)) × (new ≡ coded form layout samples ++ drop written old)
   -- another status: nothing is written; only if there is no room, `written` is the number of bytes needed
   pub kept : status ≢ 0 → new ≡ old
-  pub need : status ≡ 2 → (written ≡ length (coded form stride samples)) × (length old < written)
+  pub need : status ≡ 2 → (written ≡ length (coded form layout samples)) × (length old < written)
   pub none : status ≢ 0 → status ≢ 2 → written ≡ 0
 
 -- the form that an opening gives, with the coding parameters in force
@@ -114,6 +115,26 @@ pub record IsDecoding (most : ℕ) (bytes old new : List ℕ) (form : JlsrecForm
   pub unused : status ≢ 0 → used ≡ 0
   pub formless : status ≢ 0 → status ≢ 2 → status ≢ 14 → form ≡ no_form
   pub faultless : status < 20 → fault ≡ no_details
+
+-- why the rows of a picture of this form aren't laid out so in memory for `room` samples
+abbrev pub room_refusal : JlsrecForm → Layout → ℕ → Option Refusal
+room_refusal form layout room = rows_refusal refusal.NoRoom (row_in form layout) layout.stride (height_in form layout) room
+
+-- Bytes were decoded into a buffer of samples of at most `most`, laid out so.
+pub data IsLaidOut (most : ℕ) (bytes : List ℕ) (layout : Layout) (old new : List ℕ) (form : JlsrecForm) (used : ℕ) (fault : JlsrecFault) (status : ℕ) : Type 0 where
+  -- A complete legal opening of a picture that fits without gaps, but not if it's laid out so. It is refused so, whatever the data.
+  unfit : (refused : Refusal) → room_refusal form layout (length old) ≡ Some refused → status ≡ number_of refused
+      → HaveForm bytes form → form.maxval ≤ most → samples_of form ≤ length old → new ≡ old → used ≡ 0 → fault ≡ no_details
+      → IsLaidOut most bytes layout old new form used fault status
+  -- It is as for decoding in the order of pixels, which leaves `pixels` in the same buffer. After status 0 the samples of the picture are
+  -- laid out so, and the others unchanged.
+  decoded : (pixels : List ℕ) → IsDecoding most bytes old pixels form used fault status
+      → ((given : JlsrecForm) → HaveFitting most (length old) bytes → HaveForm bytes given → room_refusal given layout (length old) ≡ None)
+      → length new ≡ length old
+      → (status ≡ 0 → pixels ≡ laid (picture_in form layout new).samples old)
+      → (status ≡ 0 → KeepsGaps (row_in form layout) (stride_in form layout) (height_in form layout) old new)
+      → (status ≢ 0 → new ≡ pixels)
+      → IsLaidOut most bytes layout old new form used fault status
 
 -- The form of the codestream at the front of the bytes was read, from its opening alone.
 pub record IsReading (bytes : List ℕ) (form : JlsrecForm) (fault : JlsrecFault) (status : ℕ) : Type 0 where

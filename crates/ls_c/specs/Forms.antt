@@ -1,13 +1,17 @@
 -- Forms of pictures, and the layout of their samples in a caller's memory.
-use Rattle.std.specs.Prelude.{◌≡◌, ℕ, zero, suc, ◌+◌, ◌-◌, ◌*◌, ◌/◌, ◌&&◌, ◌||◌, ◌==◌, nat_lt, nat_le, Bool, true, false, if◌then◌else◌, List, [], ◌++◌, length, take, drop, position, Option, None, Some}
+use Rattle.std.specs.Prelude.{◌≡◌, ◌≢◌, ◌<◌, ℕ, zero, suc, ◌+◌, ◌-◌, ◌*◌, ◌/◌, ◌%◌, ◌&&◌, ◌||◌, ◌==◌, nat_lt, nat_le, Bool, true, false, if◌then◌else◌, List, [], ◌++◌, length, take, drop, slice_index, position, Option, None, Some}
 use Rattle.ls_frame.specs.declared.frame.Kind.{Kind}
 use Rattle.ls_frame.specs.declared.frame.Kind.TheVariants.{Gray, Color}
 use Rattle.ls_frame.specs.declared.presets.PresetFault.{PresetFault}
 use Rattle.ls_frame.specs.Picture.{Picture, components, sample_count, most_samples, greatest}
 use Rattle.ls_frame.specs.Parameters.{Parameters, limit_of, default_parameters, preset_fault}
 use Rattle.ls_frame.specs.Tuning.{or_default}
+use Rattle.ls_stream.specs.declared.arranged.Arrangement.{Arrangement}
+use Rattle.ls_stream.specs.declared.arranged.Arrangement.TheVariants.{Pixels, Planes}
+use Rattle.ls_stream.specs.Components.{arranged}
 use Rattle.ls_stream.specs.Layout.{codestream}
 use Rattle.ls_c.specs.declared.form.JlsrecForm.{JlsrecForm}
+use Rattle.ls_c.specs.declared.request.Layout.{Layout}
 use Rattle.ls_c.specs.declared.refusal.Refusal.{Refusal}
 use Rattle.ls_c.specs.declared.refusal.Refusal.TheVariants as refusal
 
@@ -50,16 +54,41 @@ narrowed number = if nat_le number greatest then number else 0
 
 -- ---- rows
 
--- the number of samples in a row
-abbrev pub row_of : JlsrecForm → ℕ
-row_of form = form.width * components (kind_of form.components)
+-- a stride in bytes, in samples of this number of bytes; none if it splits a sample
+abbrev pub in_samples : ℕ → ℕ → Option ℕ
+in_samples size stride = if stride % size == 0 then Some (stride / size) else None
+
+-- samples in the order of pixels, with a stride in samples; below, planes of samples of this number of bytes, with a stride in bytes
+abbrev pub by_pixels : ℕ → Layout
+by_pixels stride = record { arrangement = Pixels; stride = Some stride }
+
+abbrev pub by_planes : ℕ → ℕ → Layout
+by_planes size stride = record { arrangement = Planes; stride = in_samples size stride }
+
+-- The number of samples in a row, of a picture of `count` components of this width: of all components, or of one. Below, the number of rows,
+-- in all planes together.
+abbrev pub row_of : Arrangement → ℕ → ℕ → ℕ
+row_of Pixels count width = width * count
+row_of Planes count width = width
+
+abbrev pub height_of : Arrangement → ℕ → ℕ → ℕ
+height_of Pixels count height = height
+height_of Planes count height = height * count
 
 -- the number of samples from the start of a row to that of the next; a stride of 0 means the number of samples in a row
-abbrev pub stride_by : ℕ → ℕ → ℕ
-stride_by row stride = if stride == 0 then row else stride
+abbrev pub stride_by : ℕ → Option ℕ → ℕ
+stride_by row None = row
+stride_by row (Some stride) = if stride == 0 then row else stride
 
-abbrev pub stride_of : JlsrecForm → ℕ → ℕ
-stride_of form stride = stride_by (row_of form) stride
+-- the same of a form
+abbrev pub row_in : JlsrecForm → Layout → ℕ
+row_in form layout = row_of layout.arrangement (components (kind_of form.components)) form.width
+
+abbrev pub height_in : JlsrecForm → Layout → ℕ
+height_in form layout = height_of layout.arrangement (components (kind_of form.components)) form.height
+
+abbrev pub stride_in : JlsrecForm → Layout → ℕ
+stride_in form layout = stride_by (row_in form layout) layout.stride
 
 -- the rows of these samples: one at the front, and one at each stride after it
 abbrev pub rows_of : {A : Type 0} → ℕ → ℕ → ℕ → List A → List A
@@ -70,13 +99,21 @@ rows_of {A} row stride (suc more) samples = take row samples ++ rows_of row stri
 abbrev pub reach_of : ℕ → ℕ → ℕ → ℕ
 reach_of row stride height = (height - 1) * stride + row
 
--- the picture of a form whose rows are laid out with this stride among these samples
-abbrev pub picture_in : JlsrecForm → ℕ → List ℕ → Picture
-picture_in form stride samples = picture form (rows_of (row_of form) (stride_of form stride) form.height samples)
+-- the samples that are in no row are as they were
+abbrev pub KeepsGaps : ℕ → ℕ → ℕ → List ℕ → List ℕ → Type 0
+KeepsGaps row stride height old new = (k : ℕ) → ((i j : ℕ) → i < height → j < row → k ≢ i * stride + j) → slice_index new k ≡ slice_index old k
+
+-- the rows of a picture of this form
+abbrev pub rows_in : JlsrecForm → Layout → List ℕ → List ℕ
+rows_in form layout samples = rows_of (row_in form layout) (stride_in form layout) (height_in form layout) samples
+
+-- the picture of a form whose samples are laid out so among these
+abbrev pub picture_in : JlsrecForm → Layout → List ℕ → Picture
+picture_in form layout samples = picture form (arranged layout.arrangement (components (kind_of form.components)) (rows_in form layout samples))
 
 -- its codestream
-abbrev pub coded : JlsrecForm → ℕ → List ℕ → List ℕ
-coded form stride samples = codestream (picture_in form stride samples) (parameters form)
+abbrev pub coded : JlsrecForm → Layout → List ℕ → List ℕ
+coded form layout samples = codestream (picture_in form layout samples) (parameters form)
 
 -- ---- refusals
 
@@ -101,18 +138,25 @@ abbrev pub or_next : Option Refusal → Option Refusal → Option Refusal
 or_next None next = next
 or_next (Some refused) next = Some refused
 
--- why `height` rows of `row` samples each, `stride` apart, aren't among `count` samples
-abbrev pub rows_refusal : ℕ → ℕ → ℕ → ℕ → Option Refusal
-rows_refusal row stride height count =
-    unless_met (nat_le row stride) refusal.Stride (unless_met (nat_le (reach_of row stride height) count) refusal.TooFewSamples None)
+-- a stride that splits a sample is refused, else the refusals that are checked next
+abbrev pub stride_refusal : Option ℕ → Option Refusal → Option Refusal
+stride_refusal None next = Some refusal.Stride
+stride_refusal (Some stride) next = next
 
--- why `count` samples of at most `most` can't be those of a picture of this form, whatever their values
-abbrev pub request_refusal : ℕ → JlsrecForm → ℕ → ℕ → Option Refusal
-request_refusal most form stride count =
+-- why `height` rows of `row` samples each, with this stride, aren't among `count` samples; if these are too few, `short` is why
+abbrev pub rows_refusal : Refusal → ℕ → Option ℕ → ℕ → ℕ → Option Refusal
+rows_refusal short row stride height count =
+    stride_refusal stride
+    (unless_met (nat_le row (stride_by row stride)) refusal.Stride
+    (unless_met (nat_le (reach_of row (stride_by row stride) height) count) short None))
+
+-- why `count` samples of at most `most`, laid out so, can't be those of a picture of this form, whatever their values
+abbrev pub request_refusal : ℕ → JlsrecForm → Layout → ℕ → Option Refusal
+request_refusal most form layout count =
     or_next (form_refusal form)
     (unless_met (nat_le form.maxval most) refusal.NotEightBits
     (preset_refusal (preset_fault (parameters form))
-    (rows_refusal (row_of form) (stride_of form stride) form.height count)))
+    (rows_refusal refusal.TooFewSamples (row_in form layout) layout.stride (height_in form layout) count)))
 
 abbrev pub is_none : {A : Type 0} → Option A → Bool
 is_none None = true
@@ -125,9 +169,9 @@ coding_refusal f p room =
     (unless_met (nat_le (length (codestream f p)) room) refusal.NoRoom None)
 
 -- why samples can't be encoded into `room` bytes
-abbrev pub encode_refusal : ℕ → JlsrecForm → ℕ → List ℕ → ℕ → Option Refusal
-encode_refusal most form stride samples room =
-    or_next (request_refusal most form stride (length samples)) (coding_refusal (picture_in form stride samples) (parameters form) room)
+abbrev pub encode_refusal : ℕ → JlsrecForm → Layout → List ℕ → ℕ → Option Refusal
+encode_refusal most form layout samples room =
+    or_next (request_refusal most form layout (length samples)) (coding_refusal (picture_in form layout samples) (parameters form) room)
 
 -- ---- the bound
 

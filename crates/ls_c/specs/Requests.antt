@@ -1,13 +1,14 @@
 -- What a request says of its form.
 use Rattle.std.specs.Prelude.{◌≡◌, ℕ, ◌<◌, ◌≤◌}
 use Rattle.ls_c.specs.declared.form.JlsrecForm.{JlsrecForm}
+use Rattle.ls_c.specs.declared.request.Layout.{Layout}
 use Rattle.ls_c.specs.declared.request.Request.{Request}
 use Rattle.ls_frame.specs.Picture.{sample_count, most_samples}
 use Rattle.ls_frame.specs.Parameters.{IsLegal}
-use Rattle.ls_c.specs.Forms.{kind_of, parameters, row_of, stride_of, reach_of}
+use Rattle.ls_c.specs.Forms.{kind_of, parameters, row_in, height_in, stride_in, reach_of}
 
--- the request for a picture of this form with this stride, among `count` samples
-pub record IsRequest (request : Request) (form : JlsrecForm) (stride count : ℕ) : Type 0 where
+-- the request for a picture of this form, laid out so among `count` samples
+pub record IsRequest (request : Request) (form : JlsrecForm) (layout : Layout) (count : ℕ) : Type 0 where
   pub kind : request.form.kind ≡ kind_of form.components
   pub width : request.form.width ≡ form.width
   pub height : request.form.height ≡ form.height
@@ -19,8 +20,8 @@ pub record IsRequest (request : Request) (form : JlsrecForm) (stride count : ℕ
   pub presets : request.presets ≡ parameters form
   pub legal : IsLegal request.presets
   pub presets_maxval : request.presets.maxval ≡ request.form.maxval
-  pub row : request.rows.row ≡ row_of form
-  pub stride_is : request.rows.stride ≡ stride_of form stride
-  pub rows : request.rows.height ≡ form.height
-  pub wide : row_of form ≤ stride_of form stride
-  pub enough : reach_of (row_of form) (stride_of form stride) form.height ≤ count
+  pub row : request.rows.row ≡ row_in form layout
+  pub stride_is : request.rows.stride ≡ stride_in form layout
+  pub rows : request.rows.height ≡ height_in form layout
+  pub wide : row_in form layout ≤ stride_in form layout
+  pub enough : reach_of (row_in form layout) (stride_in form layout) (height_in form layout) ≤ count

@@ -18,7 +18,7 @@ words =
     ∷ codes "a side isn't 1 to 65535"
     ∷ codes "over 2^28 samples"
     ∷ codes "maxval isn't 1 to 65535"
-    ∷ codes "the stride is less than a row"
+    ∷ codes "the stride is less than a row or splits a sample"
     ∷ codes "fewer samples than the form asks for"
     ∷ codes "a sample is over maxval"
     ∷ codes "bad presets: T1"

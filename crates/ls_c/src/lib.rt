@@ -1,11 +1,11 @@
 //! The C library: encoding and decoding in a caller's memory, by the calls of `ls_stream`.
 //!
 //! Its interface is the exported functions. `library/include/jlsrec.h` declares them for C and says what each returns
-//! and leaves in memory; `specs/Calls.antt` says the same, call by call (`IsEncoding`, `IsDecoding`, `IsReading`,
-//! `IsExtent`, `IsExtents`, `IsStrictness`), in terms of the forms and rows of `specs/Forms.antt`, the statuses of
-//! `specs/Refusals.antt` and the texts of `specs/Texts.antt`, except that NO_MEMORY is returned if an allocation fails,
-//! and only then. In C a slice is a pointer followed by a count, and `alloc` is no parameter: it stands for the malloc,
-//! realloc and free of the process.
+//! and leaves in memory; `specs/Calls.antt` says the same, call by call (`IsEncoding`, `IsDecoding`, `IsLaidOut`,
+//! `IsReading`, `IsExtent`, `IsExtents`, `IsStrictness`), in terms of the forms, layouts and rows of
+//! `specs/Forms.antt`, the statuses of `specs/Refusals.antt` and the texts of `specs/Texts.antt`, except that NO_MEMORY
+//! is returned if an allocation fails, and only then. In C a slice is a pointer followed by a count, and `alloc` is no
+//! parameter: it stands for the malloc, realloc and free of the process.
 //!
 //! In reading order: `form` (the structs shared with C), `refusal` (why a call refuses, and the statuses), `request`
 //! (what is to be encoded, checked before anything is allocated), `coding` (encoding and decoding), `reading` (reading
@@ -27,16 +27,17 @@ ghost use Rattle.std.specs.List.{AllByRecursion};
 ghost use Rattle.ls_frame.specs.Picture.{Picture, IsFrame};
 ghost use Rattle.ls_frame.specs.Parameters.{Parameters, IsLegal};
 ghost use Rattle.ls_stream.specs.Layout.{codestream};
-ghost use Rattle.ls_c.specs.Calls.{IsEncoding, IsDecoding, IsReading, IsExtent, IsExtents, IsStrictness, printed};
-ghost use Rattle.ls_c.specs.Forms.{bound_of, plain_form, IsOfForm};
+ghost use Rattle.ls_c.specs.Calls.{IsEncoding, IsDecoding, IsLaidOut, IsReading, IsExtent, IsExtents, IsStrictness, printed};
+ghost use Rattle.ls_c.specs.Forms.{bound_of, plain_form, by_pixels, by_planes, IsOfForm};
 ghost use Rattle.ls_c.specs.Texts.{text_of};
 
-use coding::{decode, encode};
+use coding::{decode, decode_laid_out, encode};
 use extent::{bound, next_extent, next_extents};
 use form::{JlsrecFault, JlsrecForm, plain_form};
 use ls_frame::Samples;
 use reading::read_form;
 use refusal::status_of;
+use request::Layout;
 use std::alloc::Global;
 use strict::check_strict;
 use text::print;
@@ -52,9 +53,10 @@ pub extern "C" fn jlsrec_encode_16(
     bytes: &mut [u8],
     written: &mut usize,
 ) -> u32
-    ensures { IsEncoding 65535 form.now stride samples.now bytes.old bytes.new written.new result }
+    ensures { IsEncoding 65535 form.now (by_pixels stride) samples.now bytes.old bytes.new written.new result }
 {
-    status_of(encode(alloc, form, Samples::Words(samples), stride, bytes, written))
+    let layout = Layout::by_pixels(stride);
+    status_of(encode(alloc, form, Samples::Words(samples), layout, bytes, written))
 }
 
 /// Encodes samples of 8 bits into `bytes`. `written` is the number of bytes of the codestream, also if it doesn't fit
@@ -68,9 +70,42 @@ pub extern "C" fn jlsrec_encode_8(
     bytes: &mut [u8],
     written: &mut usize,
 ) -> u32
-    ensures { IsEncoding 255 form.now stride samples.now bytes.old bytes.new written.new result }
+    ensures { IsEncoding 255 form.now (by_pixels stride) samples.now bytes.old bytes.new written.new result }
 {
-    status_of(encode(alloc, form, Samples::Bytes(samples), stride, bytes, written))
+    let layout = Layout::by_pixels(stride);
+    status_of(encode(alloc, form, Samples::Bytes(samples), layout, bytes, written))
+}
+
+/// Encodes planes of samples of 16 bits, with a stride in bytes, into `bytes`. The rest is as for `jlsrec_encode_16`.
+#[unsafe(no_mangle)]
+pub extern "C" fn jlsrec_encode_planes_16(
+    alloc: Global,
+    form: &JlsrecForm,
+    samples: &[u16],
+    stride: usize,
+    bytes: &mut [u8],
+    written: &mut usize,
+) -> u32
+    ensures { IsEncoding 65535 form.now (by_planes 2 stride) samples.now bytes.old bytes.new written.new result }
+{
+    let layout = Layout::by_planes(2, stride);
+    status_of(encode(alloc, form, Samples::Words(samples), layout, bytes, written))
+}
+
+/// Encodes planes of samples of 8 bits, with a stride in bytes, into `bytes`. The rest is as for `jlsrec_encode_8`.
+#[unsafe(no_mangle)]
+pub extern "C" fn jlsrec_encode_planes_8(
+    alloc: Global,
+    form: &JlsrecForm,
+    samples: &[u8],
+    stride: usize,
+    bytes: &mut [u8],
+    written: &mut usize,
+) -> u32
+    ensures { IsEncoding 255 form.now (by_planes 1 stride) samples.now bytes.old bytes.new written.new result }
+{
+    let layout = Layout::by_planes(1, stride);
+    status_of(encode(alloc, form, Samples::Bytes(samples), layout, bytes, written))
 }
 
 /// Decodes the codestream at the front of `bytes` into samples of 16 bits; sets `form`, `used` (its number of bytes)
@@ -103,6 +138,42 @@ pub extern "C" fn jlsrec_decode_8(
     ensures { IsDecoding 255 bytes.now samples.old samples.new form.new used.new fault.new result }
 {
     status_of(decode(alloc, bytes, samples, form, used, fault))
+}
+
+/// Decodes the codestream at the front of `bytes` into planes of samples of 16 bits, with a stride in bytes. The rest is
+/// as for `jlsrec_decode_16`.
+#[unsafe(no_mangle)]
+pub extern "C" fn jlsrec_decode_planes_16(
+    alloc: Global,
+    bytes: &[u8],
+    samples: &mut [u16],
+    stride: usize,
+    form: &mut JlsrecForm,
+    used: &mut usize,
+    fault: &mut JlsrecFault,
+) -> u32
+    ensures { IsLaidOut 65535 bytes.now (by_planes 2 stride) samples.old samples.new form.new used.new fault.new result }
+{
+    let layout = Layout::by_planes(2, stride);
+    status_of(decode_laid_out(alloc, bytes, layout, samples, form, used, fault))
+}
+
+/// Decodes the codestream at the front of `bytes` into planes of samples of 8 bits, with a stride in bytes. The rest is
+/// as for `jlsrec_decode_8`.
+#[unsafe(no_mangle)]
+pub extern "C" fn jlsrec_decode_planes_8(
+    alloc: Global,
+    bytes: &[u8],
+    samples: &mut [u8],
+    stride: usize,
+    form: &mut JlsrecForm,
+    used: &mut usize,
+    fault: &mut JlsrecFault,
+) -> u32
+    ensures { IsLaidOut 255 bytes.now (by_planes 1 stride) samples.old samples.new form.new used.new fault.new result }
+{
+    let layout = Layout::by_planes(1, stride);
+    status_of(decode_laid_out(alloc, bytes, layout, samples, form, used, fault))
 }
 
 /// Sets `form` to the one that the headers at the front of `bytes` give, or `fault` to the details of the first fault.

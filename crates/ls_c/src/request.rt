@@ -1,19 +1,56 @@
 //! A request to encode: a form, its coding parameters, and the layout of its rows.
-ghost use Rattle.std.specs.Prelude.{◌≡◌, ◌≢◌, ◌*◌, ◌<◌, ◌≤◌, true, false, None, Some, IfOk, MatchOption, MatchResult, take, drop};
+ghost use Rattle.std.specs.Prelude.{◌≡◌, ◌≢◌, ◌*◌, ◌^◌, ◌<◌, ◌≤◌, true, false, None, Some, IfOk, MatchOption, MatchResult, take, drop};
 ghost use Rattle.ls_frame.specs.Picture.{components, sample_count, most_samples};
 ghost use Rattle.ls_frame.specs.Parameters.{preset_fault, IsLegal};
 ghost use Rattle.ls_frame.specs.Tuning.{or_default};
 ghost use Rattle.ls_frame.specs.View.Numbers.{numbers};
-ghost use Rattle.ls_c.specs.Forms.{kind_of, is_sixteen_bits, form_refusal, request_refusal, rows_refusal, parameters, narrowed, stride_by, rows_of};
+ghost use Rattle.ls_c.specs.Forms.{kind_of, is_sixteen_bits, form_refusal, request_refusal, rows_refusal, parameters, narrowed, row_of, height_of, stride_by, rows_of, reach_of};
 ghost use Rattle.ls_c.specs.Requests.{IsRequest};
 
 use crate::form::JlsrecForm;
 use crate::refusal::Refusal;
 use ls_frame::frame::MOST_SAMPLES;
 use ls_frame::{Form, Kind, PresetFault, Presets, Samples};
+use ls_stream::Arrangement;
 use std::alloc::{AllocError, Global};
 
-/// The layout of a picture's rows among a caller's samples.
+/// How a caller's samples are laid out.
+#[derive(Clone, Copy)]
+pub struct Layout {
+    pub arrangement: Arrangement,
+    /// The number of samples from the start of a row to that of the next, 0 for rows without gaps; `None` if a stride
+    /// in bytes splits a sample. In planes each row is of one component, and the planes follow one another as their
+    /// rows do.
+    pub stride: Option<usize>,
+}
+
+impl Layout {
+    ghost use Rattle.ls_c.specs.Forms.{by_pixels, by_planes};
+
+    /// Samples in the order of pixels, with a stride in samples.
+    pub fn by_pixels(stride: usize) -> Layout
+        ensures { result ≡ by_pixels stride }
+    {
+        Layout {
+            arrangement: Arrangement::Pixels,
+            stride: Some(stride),
+        }
+    }
+
+    /// Planes of samples of `size` bytes, with a stride in bytes.
+    pub fn by_planes(size: usize, stride: usize) -> Layout
+        requires { 0 < size }
+        ensures { result ≡ by_planes size stride }
+    {
+        let whole = stride.is_multiple_of(size);
+        Layout {
+            arrangement: Arrangement::Planes,
+            stride: if whole { Some(stride / size) } else { None },
+        }
+    }
+}
+
+/// The rows of a picture among a caller's samples.
 #[derive(Clone, Copy)]
 pub struct Rows {
     /// The number of samples in a row.
@@ -82,17 +119,17 @@ fn sixteen_bits(number: u32) -> Option<u16>
     }
 }
 
-/// Returns the request to encode `count` samples of at most `most`. Fails as `picture_form` does, else with the first
+/// Returns the request to encode `count` samples of at most `most`, laid out so. Fails as `picture_form` does, else with the first
 /// of `NotEightBits`, `Preset`, `Stride` and `TooFewSamples` that applies.
 pub fn request_of(
     most: u32,
     form: &JlsrecForm,
-    stride: usize,
+    layout: Layout,
     count: usize,
 ) -> Result<Request, Refusal>
-    ensures exactly { MatchResult result (λ _. request_refusal most form.now stride count ≡ None)
-        (λ refused. request_refusal most form.now stride count ≡ Some refused) }
-    ensures asked { IfOk result (λ request. IsRequest request form.now stride count) }
+    ensures exactly { MatchResult result (λ _. request_refusal most form.now layout count ≡ None)
+        (λ refused. request_refusal most form.now layout count ≡ Some refused) }
+    ensures asked { IfOk result (λ request. IsRequest request form.now layout count) }
 {
     let asked = picture_form(form)?;
     if u32::from(asked.maxval) > most {
@@ -102,8 +139,7 @@ pub fn request_of(
         Ok(presets) => presets,
         Err(fault) => return Err(Refusal::Preset(fault)),
     };
-    let row = usize::from(asked.width) * usize::from(asked.kind.components());
-    let rows = rows_of(row, stride, asked.height, count)?;
+    let rows = rows_of(asked, layout, count, Refusal::TooFewSamples)?;
     Ok(Request {
         form: asked,
         presets,
@@ -111,27 +147,60 @@ pub fn request_of(
     })
 }
 
-/// Returns the layout of `height` rows of `row` samples each among `count` samples; a stride of 0 means `row`. Fails
-/// with `Stride` if the stride is less than a row, else with `TooFewSamples`.
-fn rows_of(row: usize, stride: usize, height: u16, count: usize) -> Result<Rows, Refusal>
+/// Returns the rows of a picture of this form, laid out so among `count` samples. Fails with `Stride` if the stride is
+/// less than a row or splits a sample, else with `short` if the samples are too few.
+pub fn rows_of(form: Form, layout: Layout, count: usize, short: Refusal) -> Result<Rows, Refusal>
+    requires some_height { 0 < form.height }
+    ensures exactly { let count_of = components form.kind in let row = row_of layout.arrangement count_of form.width in let height = height_of layout.arrangement count_of form.height in
+        MatchResult result (λ _. rows_refusal short row layout.stride height count ≡ None) (λ refused. rows_refusal short row layout.stride height count ≡ Some refused) }
+    ensures row { IfOk result (λ rows. rows.row ≡ row_of layout.arrangement (components form.kind) form.width) }
+    ensures stride { IfOk result (λ rows. rows.stride ≡ stride_by (row_of layout.arrangement (components form.kind) form.width) layout.stride) }
+    ensures height { IfOk result (λ rows. rows.height ≡ height_of layout.arrangement (components form.kind) form.height) }
+    ensures wide { IfOk result (λ rows. rows.row ≤ rows.stride) }
+    ensures enough { IfOk result (λ rows. reach_of rows.row rows.stride rows.height ≤ count) }
+{
+    let width = usize::from(form.width);
+    let height = usize::from(form.height);
+    let components = usize::from(form.kind.components());
+    match layout.arrangement {
+        Arrangement::Pixels => lines_of(width * components, layout.stride, height, count, short),
+        Arrangement::Planes => lines_of(width, layout.stride, height * components, count, short),
+    }
+}
+
+/// Returns `height` rows of `row` samples each among `count` samples. Fails as `rows_of` does.
+fn lines_of(
+    row: usize,
+    stride: Option<usize>,
+    height: usize,
+    count: usize,
+    short: Refusal,
+) -> Result<Rows, Refusal>
     requires some_height { 0 < height }
-    ensures exactly { MatchResult result (λ _. rows_refusal row (stride_by row stride) height count ≡ None)
-        (λ refused. rows_refusal row (stride_by row stride) height count ≡ Some refused) }
+    requires few { height < 2 ^ 32 }
+    requires narrow { row < 2 ^ 32 }
+    ensures exactly { MatchResult result (λ _. rows_refusal short row stride height count ≡ None)
+        (λ refused. rows_refusal short row stride height count ≡ Some refused) }
     ensures row { IfOk result (λ rows. rows.row ≡ row) }
     ensures stride { IfOk result (λ rows. rows.stride ≡ stride_by row stride) }
     ensures height { IfOk result (λ rows. rows.height ≡ height) }
+    ensures wide { IfOk result (λ rows. rows.row ≤ rows.stride) }
+    ensures enough { IfOk result (λ rows. reach_of rows.row rows.stride rows.height ≤ count) }
 {
+    let Some(stride) = stride else {
+        return Err(Refusal::Stride);
+    };
     let stride = if stride == 0 { row } else { stride };
     if stride < row {
         return Err(Refusal::Stride);
     }
-    if (count as u128) < u128::from(height - 1) * stride as u128 + row as u128 {
-        return Err(Refusal::TooFewSamples);
+    if (count as u128) < (height - 1) as u128 * stride as u128 + row as u128 {
+        return Err(short);
     }
     Ok(Rows {
         row,
         stride,
-        height: usize::from(height),
+        height,
     })
 }
 

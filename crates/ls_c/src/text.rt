@@ -24,7 +24,7 @@ const WORDS: [&str; 42] = [
     "a side isn't 1 to 65535",
     "over 2^28 samples",
     "maxval isn't 1 to 65535",
-    "the stride is less than a row",
+    "the stride is less than a row or splits a sample",
     "fewer samples than the form asks for",
     "a sample is over maxval",
     "bad presets: T1",

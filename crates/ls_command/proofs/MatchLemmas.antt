@@ -61,6 +61,6 @@ recording_asked words tuning files preset text reads named few (Some (request.Co
 recording_asked words tuning files preset text reads named few (Some (request.Play file frames workers)) has = absurd has
 recording_asked words tuning files preset text reads named few (Some (request.Salvage file index)) has = absurd has
 recording_asked words tuning files preset text reads named few (Some (request.Index file sums)) has = absurd has
-recording_asked words tuning files preset text reads named few (Some (request.Check file index workers)) has = absurd has
-recording_asked words tuning files preset text reads named few (Some (request.Verify film recording workers)) has = absurd has
+recording_asked words tuning files preset text reads named few (Some (request.Check file index workers strict)) has = absurd has
+recording_asked words tuning files preset text reads named few (Some (request.Verify film recording workers strict)) has = absurd has
 recording_asked words tuning files preset text reads named few (Some (request.Replay sources capacity file)) has = absurd has

@@ -6,7 +6,8 @@ use crate::texts::{
     INDEX_OF_SALVAGE_HELP, INTO_HELP, KEEP_OPEN_HELP, LIST_HELP, NO_SUMS_HELP, PLAY_HELP,
     PLAYERS_HELP, PRESET_HELP, PROGRESS_HELP, QUEUE_HELP, REASONS_HELP, RECORD_HELP,
     RECORDING_HELP, REPLACE_HELP, REPLAY_HELP, REPORT_HELP, SALVAGE_HELP, SECONDS_HELP,
-    SOURCES_HELP, STEPS_HELP, SYNC_HELP, VERIFIERS_HELP, VERIFY_HELP, WINDOW_HELP, WORKERS_HELP,
+    SOURCES_HELP, STEPS_HELP, STRICT_HELP, SYNC_HELP, VERIFIERS_HELP, VERIFY_HELP, WINDOW_HELP,
+    WORKERS_HELP,
 };
 use clap::builder::ValueParser;
 use clap::{Arg, ArgAction, Command};
@@ -115,6 +116,7 @@ const COMMANDS: [Entry; 8] = [
             Argument::File("FILE", RECORDING_HELP),
             Argument::Text("index", "INDEX", INDEX_FILE_HELP),
             Argument::Number("workers", WORKERS, "1", CHECKERS_HELP),
+            Argument::Flag("strict", STRICT_HELP),
         ],
     },
     Entry {
@@ -124,6 +126,7 @@ const COMMANDS: [Entry; 8] = [
         arguments: &[
             REASONS,
             Argument::Number("workers", WORKERS, "1", VERIFIERS_HELP),
+            Argument::Flag("strict", STRICT_HELP),
             Argument::File("FILM", FILM_HELP),
             Argument::File("FILE", RECORDING_HELP),
         ],

@@ -78,6 +78,8 @@ pub enum Request<'a> {
         index: Option<&'a str>,
         /// The number of workers that decode; one without an index.
         workers: u8,
+        /// Whether its codestreams must be strict, too.
+        strict: bool,
     },
     /// Compare a recording with a film.
     Verify {
@@ -85,6 +87,8 @@ pub enum Request<'a> {
         recording: &'a str,
         /// The number of workers that decode.
         workers: u8,
+        /// Whether the recording's codestreams must be strict, too.
+        strict: bool,
     },
     /// Record films, side by side.
     Record(RecordRequest<'a>),
@@ -116,7 +120,7 @@ pub struct RecordRequest<'a> {
     pub report: Option<&'a str>,
     /// Whether each recording gets an index.
     pub index: bool,
-    /// The most seconds until what is recorded is on the disk; 0 if that is to be at the end alone.
+    /// The seconds after which what is recorded is brought onto the disk again; 0 if that is to be at the end alone.
     pub sync: usize,
     /// Whether pipes are kept open when nothing writes to them.
     pub keep_open: bool,
@@ -370,6 +374,7 @@ fn check_request<'a>(alloc: Global, words: &ArgMatches<'a>) -> Result<Option<Req
         file,
         index,
         workers,
+        strict: words.get_flag("strict"),
     }))
 }
 
@@ -388,6 +393,7 @@ fn verify_request<'a>(words: &ArgMatches<'a>) -> Option<Request<'a>>
         film: words.get_str("FILM")?,
         recording: words.get_str("FILE")?,
         workers: words.get_one("workers")?,
+        strict: words.get_flag("strict"),
     })
 }
 

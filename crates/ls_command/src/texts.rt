@@ -147,6 +147,13 @@ their lines are written in order once all of them are checked";
 
 pub const CHECKERS_WANTED: &str = "--workers goes only with --index";
 
+pub const STRICT_HELP: &str = "\
+If nothing else is wrong, also look whether each codestream of FILE is strict: whether the data of its scans are exactly
+what encoding its frame gives. (Decoders accept a few more bits after these.) A line on standard error reports each that
+isn't
+  FILE: frame N: not strict: the scan of component C
+where C counts the components from 0; the status is then 1. FILE is read twice, so it can't be a pipe";
+
 pub const VERIFY_HELP: &str = "\
 Compares the frames of FILE, a recording, with those of FILM, frame by frame. The status is 0 exactly if they are the
 same, each with its size, its maxval and all its samples, whatever the form of the headers on either side. Else it is 1,
@@ -216,8 +223,8 @@ Keep each named pipe open when nothing writes to it, so that programs may come a
 its recording then ends by a signal, by --for or by --count";
 
 pub const SYNC_HELP: &str = "\
-The most seconds, 0 to 86400, until a recorded frame is on the disk, where a loss of power can't take it;
-with 0 that is so only once its film has ended";
+The seconds, 0 to 86400, after which what is recorded is brought onto the disk again, where a loss of power can't take
+it; a slow disk takes longer. With 0 that is done only once a film has ended";
 
 pub const REASONS_HELP: &str = "\
 Also report on standard error the system's reason for a fault, and what a file of another kind seems to be;

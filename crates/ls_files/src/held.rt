@@ -25,6 +25,9 @@ pub struct Held<F> {
     renamed: Option<String>,
     /// The file that was made: a clone of the handle that is written to.
     made: Option<F>,
+    /// The folder in which it was made, if that can be synced. It is open from then on: later there may be no descriptor
+    /// left, or the folder may have another name.
+    folder: Option<F>,
 }
 
 /// The error for a file that another program has locked, or has just made or renamed.
@@ -66,6 +69,7 @@ impl<F: OpenFile + Drop> Held<F> {
             earlier,
             renamed: None,
             made: None,
+            folder: None,
         })
     }
 
@@ -133,6 +137,7 @@ impl<F: OpenFile + Drop> Held<F> {
                 Ok(Target::opened(opener, path, file))
             }
             _ => {
+                self.folder = open_folder(&opener, folder_of(&self.path))?;
                 let file = make_new(&opener, &self.path)?;
                 self.made = Some(file.try_clone()?);
                 Ok(Target::opened(opener, path, file))
@@ -145,15 +150,15 @@ impl<F: OpenFile + Drop> Held<F> {
         self.standing.is_written_into()
     }
 
-    /// Syncs the file to disk, and its folder too if that can be synced. Does nothing for a pipe or a device.
-    pub fn sync<O: Makes<File = F>>(&self, opener: &O) -> io::Result<()> {
+    /// Syncs the file to disk, and its folder too if that can be synced at all. Does nothing for a pipe or a device.
+    pub fn sync(&self) -> io::Result<()> {
         if let Some(made) = &self.made {
             made.sync_all()?;
-            if let Ok(folder) = opener.open(folder_of(&self.path)) {
-                let _refused = folder.sync_all();
-            }
         }
-        Ok(())
+        match &self.folder {
+            Some(folder) => sync_folder(folder),
+            None => Ok(()),
+        }
     }
 
     /// Whether a file was made and has bytes. If its size can't be read, it counts as having some.
@@ -239,6 +244,36 @@ impl<F: OpenFile + Drop> Held<F> {
         }
         is_back
     }
+}
+
+/// Opens a folder to sync it; `None` if that can't be done at all.
+fn open_folder<O: Makes>(opener: &O, path: &str) -> io::Result<Option<O::File>> {
+    match opener.open(path) {
+        Ok(folder) => Ok(Some(folder)),
+        Err(fault) if is_never_synced(fault.kind()) => Ok(None),
+        Err(fault) => Err(fault),
+    }
+}
+
+/// Syncs a folder to disk, unless that can't be done at all.
+fn sync_folder<F: OpenFile>(folder: &F) -> io::Result<()> {
+    match folder.sync_all() {
+        Err(fault) if !is_never_synced(fault.kind()) => Err(fault),
+        _ => Ok(()),
+    }
+}
+
+/// Whether a folder that fails so can't be synced at all: EINVAL, EROFS, ENOSYS or EOPNOTSUPP, since its file system
+/// doesn't sync folders; EACCES; or no folder at its path.
+fn is_never_synced(kind: io::ErrorKind) -> bool {
+    matches!(
+        kind,
+        io::ErrorKind::InvalidInput
+            | io::ErrorKind::ReadOnlyFilesystem
+            | io::ErrorKind::Unsupported
+            | io::ErrorKind::PermissionDenied
+            | io::ErrorKind::NotFound
+    )
 }
 
 /// Opens an existing file and locks it, if the file system has locks.

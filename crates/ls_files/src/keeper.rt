@@ -204,15 +204,15 @@ impl<O: Makes + Copy + Drop> Keeper<O> {
         self.replaces = false;
     }
 
-    /// Syncs the recording to disk, and its folder too if that can be synced.
+    /// Syncs the recording to disk, and its folder too if that can be synced at all.
     pub fn sync(&self) -> io::Result<()> {
-        self.recording.sync(&self.opener)
+        self.recording.sync()
     }
 
     /// Syncs the index likewise.
     pub fn sync_index(&self) -> io::Result<()> {
         match &self.index {
-            Some(index) => index.sync(&self.opener),
+            Some(index) => index.sync(),
             None => Ok(()),
         }
     }

@@ -9,7 +9,7 @@
 //!
 //! ```
 //! let opener = Opener::new(rt);
-//! let mut film = Source::of(rt, opener, "film.pgm")?;
+//! let mut film = Source::of(rt, opener, "film.pgm", false)?;
 //! let place = Place::of(rt, "film.pgm.jls");
 //! // .. compare it with other places, and then ..
 //! let mut keeper = Keeper::claim(alloc, opener, &place, None, false)?;

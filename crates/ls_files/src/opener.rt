@@ -81,20 +81,20 @@ impl Locks for File {
 }
 
 /// Opens the files of a runtime.
-pub struct Opener<'a, R> {
+pub struct Opener<'a, R: Files> {
     rt: &'a R,
     /// How the program is asked to stop, if it can be.
-    stop: Option<&'a Stop<'a>>,
+    stop: Option<&'a Stop<R::File>>,
 }
 
-impl<'a, R> Opener<'a, R> {
+impl<'a, R: Files> Opener<'a, R> {
     /// An opener for the files of this runtime.
     pub fn new(rt: &'a R) -> Opener<'a, R> {
         Opener { rt, stop: None }
     }
 
     /// The same for a program that can be asked to stop.
-    pub fn stopped_by(self, stop: &'a Stop<'a>) -> Opener<'a, R> {
+    pub fn stopped_by(self, stop: &'a Stop<R::File>) -> Opener<'a, R> {
         Opener {
             rt: self.rt,
             stop: Some(stop),
@@ -102,13 +102,13 @@ impl<'a, R> Opener<'a, R> {
     }
 }
 
-impl<'a, R> Clone for Opener<'a, R> {
+impl<'a, R: Files> Clone for Opener<'a, R> {
     fn clone(&self) -> Result<Opener<'a, R>, AllocError> {
         Ok(*self)
     }
 }
 
-impl<'a, R> Copy for Opener<'a, R> {}
+impl<'a, R: Files> Copy for Opener<'a, R> {}
 
 impl<'a, R: Files + Eprint> Opens for Opener<'a, R> {
     type File = R::File;
@@ -136,14 +136,14 @@ impl<'a, R: Files + Eprint> Opens for Opener<'a, R> {
 
     fn is_stopping(&self) -> bool {
         match self.stop {
-            Some(stop) => stop.is_asked(self.rt),
+            Some(stop) => stop.is_asked(),
             None => false,
         }
     }
 
     fn stop(&self) {
         if let Some(stop) = self.stop {
-            stop.ask(self.rt);
+            stop.ask();
         }
     }
 

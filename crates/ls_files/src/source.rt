@@ -36,9 +36,15 @@ pub struct Source<'a, O: Opens> {
 }
 
 impl<'a, O: Opens + Drop> Source<'a, O> {
-    /// Opens a file; a named pipe only at its first read. Fails with EACCES if the permissions of the pipe don't let
-    /// this process read it.
-    pub fn of<R: Files>(rt: &R, opener: O, path: &'a str) -> io::Result<Source<'a, O>>
+    /// Opens a file; a named pipe only at its first read. If it is to be kept open, that is for writing too, so that the
+    /// pipe doesn't end although nothing writes to it: it then ends only by a stop. Fails with EACCES if the permissions of
+    /// the pipe don't let this process open it so.
+    pub fn of<R: Files>(
+        rt: &R,
+        opener: O,
+        path: &'a str,
+        is_kept: bool,
+    ) -> io::Result<Source<'a, O>>
         ensures { IfOk result (ReadsFileAt O.holds O.File.remaining opener path.now) }
     {
         let pipe = match fs::metadata(rt, path) {
@@ -46,9 +52,11 @@ impl<'a, O: Opens + Drop> Source<'a, O> {
             _ => None,
         };
         match pipe {
-            Some(metadata) if may_be_read(rt, &metadata) => {
+            Some(metadata) if may_be_opened(rt, &metadata, is_kept) => {
                 let identity = Some(Identity::of(&metadata));
-                Ok(Source::new(opener, path, None, identity))
+                let mut source = Source::new(opener, path, None, identity);
+                source.is_kept = is_kept;
+                Ok(source)
             }
             Some(_) => Err(io::Error::from_raw_os_error(PERMISSION_DENIED)),
             None => Source::open(opener, path),
@@ -113,13 +121,6 @@ impl<'a, O: Opens> Source<'a, O> {
         ensures { self.new.file ≡ self.old.file }
     {
         self.notice = Some(notice);
-    }
-
-    /// Keeps an awaited pipe open once it is open, although nothing writes to it: it then ends only by a stop.
-    pub fn keep_open(&mut self)
-        ensures { self.new.file ≡ self.old.file }
-    {
-        self.is_kept = true;
     }
 
     /// The file's identity, if the system gives it.
@@ -191,16 +192,18 @@ impl<'a, O: Opens> Read for Source<'a, O> {
     }
 }
 
-/// Whether the permissions of a file let this process read it: `false` only if they surely forbid it. The owner of
-/// /proc/self is this process's user.
-fn may_be_read<R: Files>(rt: &R, metadata: &Metadata) -> bool {
+/// Whether the permissions of a file let this process read it, and write to it if it is to be kept open: `false` only if
+/// they surely forbid it. The owner of /proc/self is this process's user.
+fn may_be_opened<R: Files>(rt: &R, metadata: &Metadata, is_kept: bool) -> bool {
     let Ok(process) = fs::metadata(rt, "/proc/self") else {
         return true;
     };
-    let readable = if process.uid() == metadata.uid() {
-        0o400
+    let is_own = process.uid() == metadata.uid();
+    let (readable, writable) = if is_own {
+        (0o400, 0o200)
     } else {
-        0o044
+        (0o044, 0o022)
     };
-    process.uid() == 0 || metadata.mode() & readable != 0
+    let mode = metadata.mode();
+    process.uid() == 0 || (mode & readable != 0 && (!is_kept || mode & writable != 0))
 }

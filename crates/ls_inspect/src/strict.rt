@@ -37,6 +37,8 @@ pub fn inspect(alloc: Global, bytes: &[u8]) -> Result<Inspected, StreamFault>
     ensures never { IfOk result (λ found. IfSome found.loose (λ component. (f : Picture) → SpellsStrictly (take found.used bytes.now) f → ⊥)) }
     ensures complete { (front rest : List ℕ) (f : Picture) → bytes.now ≡ front ++ rest → Spells front f
         → MatchResult result (λ found. found.used ≡ length front) (λ fault. fault ≡ StreamFault.NoMemory) }
+    ensures fault { IfErr result (λ fault. (fault ≡ StreamFault.NoMemory)
+        ⊎ ((front rest : List ℕ) (f : Picture) → bytes.now ≡ front ++ rest → Spells front f → ⊥)) }
     ensures first { IfErr result (λ fault. (fault ≡ StreamFault.NoMemory) ⊎ IsFirstFault bytes.now fault) }
     ensures memory { IfErr result (λ fault. fault ≡ StreamFault.NoMemory → BeginsWithOpening (take most_bytes bytes.now)) }
 {

@@ -29,8 +29,6 @@ pub struct Film<'a, O: Makes> {
     pub is_stopped: bool,
     /// Whether it has an index that isn't whole, once the film has ended.
     pub is_index_broken: bool,
-    /// Whether the line with its number of frames was written.
-    pub is_told: bool,
 }
 
 /// Whether a recording and its index were synced to disk, or why not.
@@ -64,7 +62,6 @@ impl<'a, O: Makes + Copy + Drop> Film<'a, O> {
                 frames: None,
                 is_stopped: false,
                 is_index_broken: false,
-                is_told: false,
             }),
             Err(unmade) => Err(unmade_of(names, unmade)),
         }
@@ -95,14 +92,17 @@ impl<'a, O: Makes + Copy + Drop> Film<'a, O> {
         }
     }
 
-    /// Removes earlier files that are to be replaced, once the recording has a codestream and is synced.
-    pub fn replace(&mut self, written: u64) {
-        if written > 0 && self.unsynced.is_none() && self.keeper.replaces() {
-            match self.keeper.sync() {
-                Ok(()) => self.keeper.replace(),
-                Err(fault) => self.unsynced = Some(Failed::from(fault)),
-            }
+    /// Removes earlier files that are to be replaced, once the recording has a codestream and is synced. Returns whether
+    /// it can't be synced, the first time that this is found.
+    pub fn replace(&mut self, written: u64) -> bool {
+        if written == 0 || self.unsynced.is_some() || !self.keeper.replaces() {
+            return false;
         }
+        match self.keeper.sync() {
+            Ok(()) => self.keeper.replace(),
+            Err(fault) => self.unsynced = Some(Failed::from(fault)),
+        }
+        self.unsynced.is_some()
     }
 
     /// Brings what is written of the recording onto the disk while it goes on, and of its index no more than that.

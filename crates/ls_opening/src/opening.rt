@@ -124,7 +124,7 @@ where
     {
         let mut sources = Vec::new(self.rt.alloc());
         for film in self.names {
-            match Source::of(self.rt, self.opener, film.file) {
+            match Source::of(self.rt, self.opener, film.file, self.asked.keep_open) {
                 Ok(source) => sources.push(source)?,
                 Err(fault) => return Err(Refusal::Unopened(film.file, fault)),
             }
@@ -350,9 +350,7 @@ where
     E: Outlet,
     ensures { IfOk result (λ reader. unread O.File.remaining reader ≡ left_in_source O.File.remaining source.entry) }
 {
-    if keep_open {
-        source.keep_open();
-    } else if source.is_awaited() && console.is_terminal() {
+    if !keep_open && source.is_awaited() && console.is_terminal() {
         source.announce(names.notice.as_str());
         let file = Shown(names.file);
         console.say(format_args!("{file}: waiting for what writes to it"));

@@ -183,8 +183,10 @@ where
         Command::Code(film) => code(program, film),
         Command::Play(file, part, workers) => show(program, file, part, workers),
         Command::Index(file, sums) => index(program, file, sums),
-        Command::Check(file, index, workers) => check_recording(program, file, index, workers),
-        Command::Verify(film, file, workers) => verify_files(program, film, file, workers),
+        Command::Check(file, index, workers) => {
+            check_recording(program, file, index, workers, false)
+        }
+        Command::Verify(film, file, workers) => verify_files(program, film, file, workers, false),
     }
 }
 
@@ -226,7 +228,7 @@ fn check_commands<R: AllocGlobal + Files + Threads + Sync + Abort>(rt: &R) {
 }
 
 /// Checks what playing, coding and comparing in memory return.
-fn check_films<R: AllocGlobal + Threads + Sync + Abort>(rt: &R) {
+fn check_films<R: AllocGlobal + Files + Threads + Sync + Abort>(rt: &R) {
     let played = play_in_memory(rt, FILES, "film.jls", 1);
     check_bytes(rt, played.as_deref(), Some(FILM));
     check_bytes(

@@ -12,6 +12,7 @@ use ls_console::{COLUMNS, Console, DONE, Program};
 use ls_files::Opens;
 use ls_frame::Counted;
 use ls_reading::{code, show, verify_files};
+use std::rt::Files;
 use std::thread::Threads;
 
 /// Plays the recording at `path` with this number of workers, and returns what was written to standard output, if the
@@ -44,7 +45,7 @@ pub fn verify_in_memory<R>(
     workers: u8,
 ) -> bool
 where
-    R: AllocGlobal + Threads + Sync,
+    R: AllocGlobal + Files + Threads + Sync,
     ensures { result ≡ true → HaveOneFilm files.now film.now recording.now }
 {
     verify(rt, Memory { files, blanks: &[] }, film, recording, workers)
@@ -101,7 +102,7 @@ where
 /// Compares a recording with a film, over any files. Whether the status is `DONE`.
 fn verify<R, O>(rt: &R, opener: O, film: &str, recording: &str, workers: u8) -> bool
 where
-    R: AllocGlobal + Threads + Sync,
+    R: AllocGlobal + Files + Threads + Sync,
     O: Opens + Copy + Drop,
     ensures { result ≡ true → HaveSameFrames O.holds opener film.now recording.now }
 {
@@ -114,5 +115,5 @@ where
         output: &mut output,
         console: &mut console,
     };
-    verify_files(program, film, recording, workers) == DONE
+    verify_files(program, film, recording, workers, false) == DONE
 }

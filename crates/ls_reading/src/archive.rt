@@ -1,5 +1,5 @@
 //! The commands `index`, `check` and `verify`: a recording is listed, checked for damage, and compared with its film.
-ghost use Rattle.std.specs.Prelude.{◌≡◌, ◌⊎◌, false, IfOk, IfErr, IfSome, IfNone, length};
+ghost use Rattle.std.specs.Prelude.{◌≡◌, ◌⊎◌, true, false, IfOk, IfErr, IfSome, IfNone, length};
 ghost use Rattle.ls_frame.specs.View.Chunks.{left_in, inner_reader};
 ghost use Rattle.ls_frame.specs.View.Devices.{count_after, wrapped};
 ghost use Rattle.ls_film.specs.View.Steps.{failed_by};
@@ -9,11 +9,12 @@ ghost use Rattle.ls_archive.specs.View.Indexing.{Completes as Indexes, Stops as 
 ghost use Rattle.ls_archive.specs.View.Places.{AreStanding};
 ghost use Rattle.ls_archive.specs.View.Verifying.{Stops as StopsComparison};
 ghost use Rattle.ls_console.specs.View.Readers.{unread};
-ghost use Rattle.ls_reading.specs.View.Commands.{HasNoGaps, HaveSameFrames, IsSearched, PassesCheck, WritesIndexOf};
+ghost use Rattle.ls_reading.specs.View.Commands.{HasNoGaps, HasStrictCodestreams, HaveSameFrames, IsSearched, PassesCheck, WritesIndexOf};
 ghost use Rattle.ls_reading.specs.View.Statuses.{DoneOrFailed, verdict_status};
 
 use crate::asked::Asked;
 use crate::cause::conclude;
+use crate::strict::look_strict;
 use core::mem::replace_with;
 use ls_archive::{
     CheckFault, Checked, Difference, Finding, Findings, IndexFault, Verdict, VerifyFault, Wanted,
@@ -137,12 +138,14 @@ fn index_to<R: Feed, L: Outlet>(
 }
 
 /// Looks for damage in a recording, by its index if one is named, and then with this number of workers that decode.
-/// Writes a line for each finding, through a buffer.
+/// Writes a line for each finding, through a buffer. With `strict` also looks, if nothing is damaged, whether each
+/// codestream is strict.
 pub fn check_recording<R, O, W, E>(
     program: Program<'_, R, O, W, E>,
     file: &str,
     index: Option<&str>,
     workers: u8,
+    strict: bool,
 ) -> u8
 where
     R: AllocGlobal + Files + Threads + Sync,
@@ -152,6 +155,7 @@ where
     ensures status { DoneOrFailed result }
     ensures good { result ≡ DONE → IfSome index.entry (λ index. PassesCheck O.holds program.entry.opener file.now index.now) }
     ensures alone { result ≡ DONE → IfNone index.entry (HasNoGaps O.holds program.entry.opener file.now) }
+    ensures strict { result ≡ DONE → strict ≡ true → HasStrictCodestreams O.holds program.entry.opener file.now }
 {
     let Program {
         rt,
@@ -159,6 +163,9 @@ where
         output,
         console,
     } = program;
+    if strict && !is_read_twice(rt, file, "--strict", console) {
+        return FAILED;
+    }
     let Ok(buffer) = line_buffer(rt.alloc()) else {
         return no_memory(console);
     };
@@ -172,6 +179,11 @@ where
     let status = match index {
         Some(index) => check_with(lined, file, index, workers),
         None => check_alone(lined, file),
+    };
+    let status = if strict && status == DONE {
+        look_strict(rt.alloc(), opener, file, console)
+    } else {
+        status
     };
     let status = if Outlet::failures(&lines) > 0 {
         say_unwritten(lines.last_failure(), console)
@@ -319,11 +331,29 @@ fn find_lent<R: Feed>(
 }
 
 /// Whether a file gives the same bytes when it is opened once more: a regular file does, a pipe doesn't.
-pub fn is_read_anew<R: Files>(rt: &R, file: &str) -> bool {
+fn is_read_anew<R: Files>(rt: &R, file: &str) -> bool {
     match fs::metadata(rt, file) {
         Ok(metadata) => metadata.is_file(),
         Err(_) => false,
     }
+}
+
+/// Whether a file, if it can be opened, can be read twice, as an option asks for. If it can't, says so.
+pub fn is_read_twice<R: Files, E: Outlet>(
+    rt: &R,
+    file: &str,
+    option: &str,
+    console: &mut Console<E>,
+) -> bool {
+    let is_once = match fs::metadata(rt, file) {
+        Ok(metadata) => !metadata.is_file(),
+        Err(_) => false,
+    };
+    if is_once {
+        let shown = Shown(file);
+        console.say(format_args!("{shown}: can't be read twice, as {option} asks for"));
+    }
+    !is_once
 }
 
 /// Looks for damage in a recording by its index, over any readers, with this number of workers that decode.
@@ -405,8 +435,49 @@ fn decode_only<R: Feed, G: Gaps>(
     salvage::<NoText, _, _, _>(alloc, recording, &mut nothing, gaps)
 }
 
-/// Compares a recording, decoded by this number of workers, with its film, and says where they differ.
+/// Compares a recording, decoded by this number of workers, with its film, and says where they differ. With `strict`
+/// also looks, if they don't, whether each codestream is strict.
 pub fn verify_files<R, O, W, E>(
+    program: Program<'_, R, O, W, E>,
+    film: &str,
+    recording: &str,
+    workers: u8,
+    strict: bool,
+) -> u8
+where
+    R: AllocGlobal + Files + Threads + Sync,
+    O: Opens + Copy + Drop,
+    W: Write,
+    E: Outlet,
+    ensures status { DoneOrFailed result }
+    ensures same { result ≡ DONE → HaveSameFrames O.holds program.entry.opener film.now recording.now }
+    ensures strict { result ≡ DONE → strict ≡ true → HasStrictCodestreams O.holds program.entry.opener recording.now }
+{
+    let Program {
+        rt,
+        opener,
+        output,
+        console,
+    } = program;
+    if strict && !is_read_twice(rt, recording, "--strict", console) {
+        return FAILED;
+    }
+    let comparing = Program {
+        rt,
+        opener,
+        output,
+        console: &mut *console,
+    };
+    let status = compare_files(comparing, film, recording, workers);
+    if strict && status == DONE {
+        look_strict(rt.alloc(), opener, recording, console)
+    } else {
+        status
+    }
+}
+
+/// Compares a recording, decoded by this number of workers, with its film, and says where they differ.
+fn compare_files<R, O, W, E>(
     program: Program<'_, R, O, W, E>,
     film: &str,
     recording: &str,

@@ -16,7 +16,7 @@ ghost use Rattle.ls_reading.specs.View.Statuses.{DoneOrFailed, DoneFailedOrUsage
 
 use crate::asked::Asked;
 use crate::cause::{Caused, conclude};
-use crate::indexing::make_index;
+use crate::indexing::{make_index, say_twice};
 use core::mem::replace_with;
 use ls_archive::{CodedFilm, IndexFault, code_film_with_index};
 use ls_console::{
@@ -167,7 +167,7 @@ fn code_to<R: Feed, W: Outlet>(
     code_film(alloc, film, output)
 }
 
-/// Codes a film, and writes the index of its codestreams to a file.
+/// Codes a film, and writes the index of its codestreams to a file, which must be another one.
 pub fn code_with_index<R, O, W, E>(program: Program<'_, R, O, W, E>, file: &str, index: &str) -> u8
 where
     R: Host,
@@ -175,6 +175,7 @@ where
     W: Write,
     E: Outlet,
     ensures status { DoneFailedOrUsage result }
+    ensures twice { file.now ≡ index.now → result ≡ USAGE }
     ensures codes { result ≡ DONE → WritesTextOf O.holds program.entry.opener file.now
         (W.contents (wrapped program.entry.output.now)) (W.contents (wrapped program.exit.1.1.0.now)) IsImageOf default_file }
 {
@@ -184,6 +185,9 @@ where
         output,
         console,
     } = program;
+    if file == index {
+        return say_twice(index, console);
+    }
     let film = match open_film(rt.alloc(), opener, file, console) {
         Ok(film) => film,
         Err(status) => return status,

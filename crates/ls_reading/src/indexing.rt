@@ -6,7 +6,8 @@ use ls_files::{Keeper, Makes, Opens, Place};
 use ls_frame::Outlet;
 use std::rt::Files;
 
-/// Makes the file for the index of a film's codestreams. On failure says why and returns the status.
+/// Makes the file for the index of a film's codestreams, unless the film has that place under another name. On failure
+/// says why and returns the status.
 pub fn make_index<'a, R, O, E>(
     rt: &R,
     opener: O,
@@ -24,14 +25,21 @@ where
     let film = film.get_ref().get_ref();
     let identity = film.identity();
     let is_film = identity.is_some() && identity == place.identity();
-    if path == film.path() || is_film {
-        let shown = Shown(path);
-        console.say(format_args!("{shown}: given twice"));
-        return Err(USAGE);
+    if is_film {
+        return Err(say_twice(path, console));
     }
     let alloc = rt.alloc();
     match Keeper::claim(alloc, opener, &place, None, false) {
         Ok(keeper) => make_file(alloc, path, keeper, console),
         Err(unmade) => Err(say_unmade(path, unmade.fault, console)),
     }
+}
+
+/// Says that the file at a path is given twice, and returns the status `USAGE`.
+pub fn say_twice<E: Outlet>(path: &str, console: &mut Console<E>) -> u8
+    ensures { result ≡ USAGE }
+{
+    let shown = Shown(path);
+    console.say(format_args!("{shown}: given twice"));
+    USAGE
 }

@@ -27,7 +27,7 @@
 //! In reading order: `cause` (the causes of faults), `asked` (what a command that writes lines is asked for), `films`
 //! (`list` and `code`), `indexing` (the file of an index that is written together with its recording), `playing`
 //! (`play`), `recorded` (the recorded numbers of gaps, and lost frames), `archive` (`index`, `check` and `verify`),
-//! `replaying` (`replay`). The contracts say which status each returns, and what each has read and written if it is 0
+//! `strict` (whether codestreams are strict), `replaying` (`replay`). The contracts say which status each returns, and what each has read and written if it is 0
 //! (`specs/View/Commands.antt`, `specs/View/Replays.antt`); what each engine does over any reader and writer is said at
 //! the function that calls it. What is said on standard error, the tests of the whole program show.
 #![tactic(auto)]
@@ -40,6 +40,7 @@ mod indexing;
 mod playing;
 mod recorded;
 mod replaying;
+mod strict;
 
 pub use archive::{check_recording, index, verify_files};
 pub use films::{code, code_with_index, list};

@@ -6,7 +6,7 @@ ghost use Rattle.ls_archive.specs.View.Checks.{blames_index};
 ghost use Rattle.ls_archive.specs.View.Places.{IsSaidBy};
 ghost use Rattle.ls_reading.specs.View.Commands.{AreFoundIn, SaysLines};
 
-use crate::archive::{find_all, is_read_anew};
+use crate::archive::{find_all, is_read_twice};
 use crate::cause::conclude;
 use ls_archive::{CheckFault, Wanted, read_index};
 use ls_console::{Console, FAILED, Shown, no_memory, open_film};
@@ -41,9 +41,7 @@ impl Found {
         ensures found { IfOk result (λ found. AreFoundIn O.holds opener file.now index.now found.lines.items found.places.items) }
         ensures status { IfErr result (λ status. status ≡ FAILED) }
     {
-        if !is_read_anew(rt, file) {
-            let shown = Shown(file);
-            console.say(format_args!("{shown}: can't be read twice, as --index asks for"));
+        if !is_read_twice(rt, file, "--index", console) {
             return Err(FAILED);
         }
         let alloc = rt.alloc();

@@ -24,7 +24,7 @@ use ls_frame::{Feed, NetpbmFault, Outlet, PresetFault, Tuning};
 use ls_pieces::{Collector, Misfit, Order};
 use ls_queue::{Closer, Ended, Finished, Queue, SourceSeat, WorkerSeat, open, settle};
 use places::{Places, Returns};
-use reading::{Reading, ReadingEnd, read_booked};
+use reading::{Reading, ReadingEnd, read_beside, read_nothing};
 use std::alloc::Global;
 use std::snapshot::Snapshot;
 use std::sync::Wait;
@@ -362,12 +362,9 @@ fn run_halves<
         { write_film(setting, writing) },
     );
     match started {
-        Ok(handle) => {
-            let read = read_booked(setting, reading, true);
-            (read, handle.join(setting.rt))
-        }
+        Ok(handle) => read_beside(setting, reading, handle),
         Err(refused) => {
-            let read = read_booked(setting, reading, false);
+            let read = read_nothing(setting, reading);
             (read, (refused.value)())
         }
     }

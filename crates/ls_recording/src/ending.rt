@@ -1,4 +1,5 @@
 //! Says how each film ended, once its recording has ended and is on the disk.
+mod ended;
 mod json;
 pub mod report;
 mod table;
@@ -119,26 +120,29 @@ where
 
 /// Says the number of frames of each complete recording, unless that was said. Returns the status: `FAILED` if a line
 /// couldn't be written.
-pub fn say_counts<O, W, E>(
+pub fn say_counts<R, O, W, E>(
     alloc: Global,
+    watch: &Watch<'_, R>,
     films: &[Film<'_, O>],
     output: &mut Counted<W>,
     console: &mut Console<E>,
 ) -> u8
 where
+    R: Clock,
     O: Makes,
     W: Write,
     E: Outlet,
     ensures { (result ≡ DONE) ⊎ (result ≡ FAILED) }
 {
-    for film in films {
+    for (number, film) in films.iter().enumerate() {
         // After a line that couldn't be written, no more are written.
         if Outlet::failures(output) > 0 {
             return FAILED;
         }
         match film.frames {
-            Some(frames) if !film.is_told => {
-                let said = say_count(alloc, film, frames, output, console);
+            Some(frames) if !watch.is_counted(number) => {
+                let (file, is_stopped) = (film.names.file, film.is_stopped);
+                let said = say_count(alloc, file, frames, is_stopped, output, console);
                 if said != DONE {
                     return said;
                 }
@@ -287,22 +291,22 @@ fn cause_of(fault: LaneFault) -> Cause {
     }
 }
 
-/// Says the number of recorded frames of a film, and returns the status.
-pub fn say_count<O, W, E>(
+/// Says the number of recorded frames of the film FILE, and whether it was stopped, and returns the status.
+pub fn say_count<W, E>(
     alloc: Global,
-    film: &Film<'_, O>,
+    file: &str,
     frames: u64,
+    is_stopped: bool,
     output: &mut Counted<W>,
     console: &mut Console<E>,
 ) -> u8
 where
-    O: Makes,
     W: Write,
     E: Outlet,
     ensures { (result ≡ DONE) ⊎ (result ≡ FAILED) }
 {
-    let file = Shown(film.names.file);
-    let ended = if film.is_stopped { ", stopped" } else { "" };
+    let file = Shown(file);
+    let ended = if is_stopped { ", stopped" } else { "" };
     match format!(in alloc; "{file}: {frames} frames{ended}\n") {
         Ok(line) => write_text(line.as_bytes(), output, console),
         Err(_) => no_memory(console),

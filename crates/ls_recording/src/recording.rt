@@ -8,9 +8,10 @@ ghost use Rattle.ls_files.specs.declared.keeper.Targets.{Targets};
 use crate::ending::report::{report_of, write_report};
 use crate::ending::{Ends, end_films, release, say_counts};
 use crate::watching::Watch;
+use crate::watching::keeping::keep_files;
 use crate::watching::limiting::Limiting;
 use crate::watching::progress::Teller;
-use crate::watching::schedule::Schedule;
+use crate::watching::schedule::{Deadline, Syncs};
 use ls_command::RecordRequest;
 use ls_console::{DONE, FAILED, Host, Program, Reader, no_memory};
 use ls_files::{Makes, Opens, Targets};
@@ -116,12 +117,13 @@ where
             console: &mut *console,
         },
         watch: &watch,
-        schedule: Schedule::new(asked),
+        deadline: Deadline::new(asked),
         files: &asked.files,
-        films: &mut films,
         is_telling,
     };
-    let recorded = record_watched(rt, asked, limits, &watch, teller, devices);
+    let recorded = record_watched(
+        rt, opener, asked, limits, &watch, &mut films, teller, devices,
+    );
     let program = Program {
         rt,
         opener,
@@ -142,13 +144,16 @@ where
     }
 }
 
-/// Records films while another thread watches them. If no thread can be started to watch, nobody does.
+/// Records films while one thread keeps their files, and another keeps the time and says progress. If no thread can be
+/// started for one of them, its work comes once the recording has ended; the other does its own meanwhile.
 fn record_watched<'a, R, O, W, E>(
     rt: &R,
+    opener: O,
     asked: &RecordRequest<'_>,
     limits: &[Limit],
     watch: &Watch<'_, R>,
-    teller: Teller<'_, 'a, R, O, W, E>,
+    films: &mut [Film<'a, O>],
+    teller: Teller<'_, R, O, W, E>,
     devices: Vec<Devices<'a, O>>,
 ) -> Recorded<'a, O>
 where
@@ -159,12 +164,47 @@ where
     E: Outlet + Send,
     ensures { IfOk result (λ recording. AllZip (HasTrack (left_of O.File.remaining) (held O.File.contents)) devices.entry.items recording.tracks.items) }
 {
-    record_beside(rt, asked, limits, watch, move || teller.tell(), devices)
+    let syncs = Syncs::new(asked);
+    let films = &mut *films;
+    let keep = move || keep_files(rt, opener, watch, syncs, films);
+    let tell = move || teller.tell();
+    record_beside(rt, asked, limits, watch, keep, tell, devices)
 }
 
-/// Records films while another call goes on in a thread of its own, or comes after the recording if no thread can be
-/// started for it. The call ends soon after the watch says that the recording has ended.
-fn record_beside<R, F, W, T>(
+/// Records films while two other calls go on, each in a thread of its own; or it comes after the recording if no thread
+/// can be started for it. They end soon after the watch says that the recording has ended.
+fn record_beside<R, F, W, K, T>(
+    rt: &R,
+    asked: &RecordRequest<'_>,
+    limits: &[Limit],
+    watch: &Watch<'_, R>,
+    first: K,
+    second: T,
+    films: Vec<(F, W, Tuning)>,
+) -> Result<Tracks<F, W>, (RecordFault, Vec<(F, W, Tuning)>)>
+where
+    R: AllocGlobal + Clock + Threads + Wait + Sync,
+    F: Feed + Send + Drop,
+    W: Outlet + Send + Drop,
+    K: FnOnce() + Send,
+    T: FnOnce() + Send,
+    requires first { K.pre first }
+    requires second { T.pre second }
+    ensures { IfOk result (λ recording. AllZip (HasTrack F.remaining W.contents) films.items recording.tracks.items) }
+{
+    let ((), recorded) = thread::join(
+        rt,
+        first,
+        move || -> Result<Tracks<F, W>, (RecordFault, Vec<(F, W, Tuning)>)>
+            requires { T.pre second }
+            ensures { IfOk result (λ recording. AllZip (HasTrack F.remaining W.contents) films.items recording.tracks.items) }
+        { record_beside_one(rt, asked, limits, watch, second, films) },
+    );
+    recorded
+}
+
+/// Records films while another call goes on likewise.
+fn record_beside_one<R, F, W, T>(
     rt: &R,
     asked: &RecordRequest<'_>,
     limits: &[Limit],
@@ -235,7 +275,7 @@ where
         ..
     } = program;
     let Ends { files, are_whole } = end_films(rt.alloc(), watch, count, films, recorded, console);
-    let said = say_counts(rt.alloc(), films, output, console);
+    let said = say_counts(rt.alloc(), watch, films, output, console);
     Finished {
         status: status_of(are_whole, said),
         files,

@@ -1,6 +1,7 @@
-//! Watches a recording while it goes on: a gate that counts and takes times, so that each film's files are settled
-//! when it ends, and for progress and a report.
+//! Watches a recording while it goes on: a gate that counts and takes times, for the thread that keeps the films' files,
+//! for the one that keeps the time and says progress, and for a report.
 mod film;
+pub mod keeping;
 pub mod limiting;
 mod line;
 mod pace;
@@ -32,9 +33,10 @@ pub struct Watch<'r, R> {
     /// Whether the recording has ended, and when it did.
     over: AtomicBool,
     lasted: AtomicU64,
-    /// Wakes the thread that waits when a film's first codestream is written, a film stops or ends, or the recording
-    /// ends.
-    bell: Parker,
+    /// These wake the thread that says progress and the one that keeps the films' files when a film's first codestream
+    /// is written, a film stops or ends, or the recording ends; and the first also when the second has noted something.
+    telling: Parker,
+    keeping: Parker,
 }
 
 impl<'r, R: Clock> Watch<'r, R> {
@@ -59,7 +61,8 @@ impl<'r, R: Clock> Watch<'r, R> {
             coding: AtomicU64::new(0),
             over: AtomicBool::new(false),
             lasted: AtomicU64::new(0),
-            bell: Parker::new(),
+            telling: Parker::new(),
+            keeping: Parker::new(),
         })
     }
 
@@ -120,20 +123,74 @@ impl<'r, R: Clock> Watch<'r, R> {
         self.coding.load(Ordering::SeqCst)
     }
 
-    /// Waits `longest` at most; less if a film's first codestream is written, a film stops or ends, or the recording
-    /// ends.
+    /// Notes that the files of the film of this number are settled and on the disk.
+    pub fn note_settled(&self, film: usize) {
+        if let Some(film) = self.films.get(film) {
+            if film.note_settled() {
+                self.telling.unpark();
+            }
+        }
+    }
+
+    /// Notes that what is recorded of the film of this number can't be brought onto the disk.
+    pub fn note_unsynced(&self, film: usize) {
+        if let Some(film) = self.films.get(film) {
+            film.note_unsynced();
+            self.telling.unpark();
+        }
+    }
+
+    /// Whether it was noted, since this was last asked, that what is recorded of the film of this number can't be
+    /// brought onto the disk.
+    pub fn is_unsynced_since(&self, film: usize) -> bool {
+        match self.films.get(film) {
+            Some(film) => film.is_unsynced_since(),
+            None => false,
+        }
+    }
+
+    /// The number of frames of the film of this number, if it was recorded completely and is settled, and no call has
+    /// given that before: so it is said once.
+    pub fn count_to_say(&self, film: usize) -> Option<u64> {
+        self.films.get(film)?.count_to_say()
+    }
+
+    /// Whether `count_to_say` has given the number of frames of the film of this number.
+    pub fn is_counted(&self, film: usize) -> bool {
+        match self.films.get(film) {
+            Some(film) => film.is_counted(),
+            None => false,
+        }
+    }
+
+    /// Waits `longest` at most; less if a film's first codestream is written, a film stops or ends, something is noted
+    /// of its files, or the recording ends. For the thread that says progress.
     pub fn wait(&self, longest: Duration)
     where
         R: Wait,
     {
-        self.bell.park_timeout(self.clock, longest);
+        self.telling.park_timeout(self.clock, longest);
+    }
+
+    /// Waits `longest` at most; less if a film's first codestream is written, a film stops or ends, or the recording
+    /// ends. For the thread that keeps the films' files.
+    pub fn wait_for_files(&self, longest: Duration)
+    where
+        R: Wait,
+    {
+        self.keeping.park_timeout(self.clock, longest);
+    }
+
+    fn ring(&self) {
+        self.telling.unpark();
+        self.keeping.unpark();
     }
 
     /// Marks the recording as ended.
     pub fn end(&self) {
         self.lasted.store(self.now(), Ordering::SeqCst);
         self.over.store(true, Ordering::SeqCst);
-        self.bell.unpark();
+        self.ring();
     }
 
     /// The time that the recording lasted, once it has ended.
@@ -161,12 +218,12 @@ impl<'r, R: Clock + Sync> Gate for Watch<'r, R> {
             film.take(notice, self.now());
         }
         if rings(notice) {
-            self.bell.unpark();
+            self.ring();
         }
     }
 }
 
-/// Whether a notice wakes the thread that waits.
+/// Whether a notice wakes the threads that wait.
 fn rings(notice: Notice) -> bool {
     match notice {
         Notice::Ended(_) | Notice::Stops(_) => true,

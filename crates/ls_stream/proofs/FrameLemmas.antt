@@ -17,9 +17,10 @@ use Rattle.ls_bits.specs.View.Room.{Fits}
 use Rattle.ls_coding.specs.View.States.{Coding, state_of}
 use Rattle.ls_stream.specs.Planes.{Plane, rows_from, spans, plane_bits}
 use Rattle.ls_stream.specs.View.Coded.{bits_from, all_from}
-use Rattle.ls_stream.specs.declared.shape.Shape.{Shape}
+use Rattle.ls_frame.specs.View.Numbers.{numbers}
+use Rattle.ls_stream.specs.declared.arranged.ComponentView.{ComponentView}
 use Rattle.ls_stream.specs.Components.{component_of, component_plane, plane_of}
-use Rattle.ls_stream.specs.View.Shapes.{IsShapeOf}
+use Rattle.ls_stream.specs.View.Arrangements.{IsComponentOf}
 use Rattle.ls_stream.proofs.CodedLemmas.{plane_from, parameters_of}
 
 -- each sample is at most maxval, and one past the end reads as 0
@@ -88,69 +89,59 @@ all_rows p f is component bits s e =
     ∙ ap (λ xs. bits_from (plane_of f component) xs (state_of p [])) (append-nil (rows_from (plane_of f component) f.height 0) ∙ sym (plane_rows f is component))
     ∙ sym (plane_from p (plane_of f component))
 
--- ---- the same, for a picture's shape and its samples
-
-pub length_of : (f : Picture) (shape : Shape) (samples : List ℕ) → IsShapeOf f shape → samples ≡ f.samples → length samples ≡ shape.height * (shape.width * shape.components)
-length_of f shape samples is same =
-    let turned : f.width * f.height * components f.kind ≡ f.height * (f.width * components f.kind) = omega arith in
-    ap length same ∙ is.formed.count ∙ turned
-    ∙ ap (λ h. h * (f.width * components f.kind)) (sym is.height)
-    ∙ ap (λ w. shape.height * (w * components f.kind)) (sym is.width)
-    ∙ ap (λ n. shape.height * (shape.width * n)) (sym is.count)
+-- ---- the same, for the samples of a component
 
 -- the most bits of a plane
 abbrev pub most : ℕ → ℕ → ℕ → ℕ
 most maxval width height = limit_of maxval * (width * height)
 
-most_of : (f : Picture) (shape : Shape) (p : Parameters) (s : Coding) → IsShapeOf f shape → s ≡ state_of p [] → most s.parameters.maxval shape.width shape.height ≡ most p.maxval f.width f.height
-most_of f shape p s is e =
-    ap (λ (t : Coding). most t.parameters.maxval shape.width shape.height) e
-    ∙ ap (λ (q : Parameters). most q.maxval shape.width shape.height) (parameters_of p [])
-    ∙ ap (λ w. most p.maxval w shape.height) is.width ∙ ap (most p.maxval f.width) is.height
+most_of : (f : Picture) (component : ℕ) (view : ComponentView) (p : Parameters) (s : Coding) → IsComponentOf f component view → s ≡ state_of p []
+    → most s.parameters.maxval view.shape.width view.shape.height ≡ most p.maxval f.width f.height
+most_of f component view p s is e =
+    ap (λ (t : Coding). most t.parameters.maxval view.shape.width view.shape.height) e
+    ∙ ap (λ (q : Parameters). most q.maxval view.shape.width view.shape.height) (parameters_of p [])
+    ∙ ap (λ w. most p.maxval w view.shape.height) is.width ∙ ap (most p.maxval f.width) is.height
 
-pub room_of : (f : Picture) (shape : Shape) (p : Parameters) (s : Coding) (bits : List Bool) (room : ℕ) → IsShapeOf f shape → s ≡ state_of p []
-    → bits ≡ [] → Fits (most p.maxval f.width f.height) room → Fits (length bits + most s.parameters.maxval shape.width shape.height) room
-room_of f shape p s bits room is e none fits =
+pub room_of : (f : Picture) (component : ℕ) (view : ComponentView) (p : Parameters) (s : Coding) (bits : List Bool) (room : ℕ) → IsComponentOf f component view → s ≡ state_of p []
+    → bits ≡ [] → Fits (most p.maxval f.width f.height) room → Fits (length bits + most s.parameters.maxval view.shape.width view.shape.height) room
+room_of f component view p s bits room is e none fits =
     let nothing : length bits ≡ 0 = ap length none in
-    let same : most p.maxval f.width f.height ≡ length bits + most s.parameters.maxval shape.width shape.height = omega (arith, most_of f shape p s is e) in
+    let same : most p.maxval f.width f.height ≡ length bits + most s.parameters.maxval view.shape.width view.shape.height = omega (arith, most_of f component view p s is e) in
     subst (λ n. Fits n room) same fits
 
-pub cost_of : (f : Picture) (shape : Shape) (p : Parameters) (s : Coding) (bits new : List Bool) → IsShapeOf f shape → s ≡ state_of p []
-    → bits ≡ [] → length new ≤ length bits + most s.parameters.maxval shape.width shape.height → length new ≤ most p.maxval f.width f.height
-cost_of f shape p s bits new is e none cost = omega (arith, most_of f shape p s is e, ap length none)
+pub cost_of : (f : Picture) (component : ℕ) (view : ComponentView) (p : Parameters) (s : Coding) (bits new : List Bool) → IsComponentOf f component view → s ≡ state_of p []
+    → bits ≡ [] → length new ≤ length bits + most s.parameters.maxval view.shape.width view.shape.height → length new ≤ most p.maxval f.width f.height
+cost_of f component view p s bits new is e none cost = omega (arith, most_of f component view p s is e, ap length none)
 
-pub bits_of : (f : Picture) (shape : Shape) (samples : List ℕ) (p : Parameters) (s after : Coding) (component : ℕ) (bits new : List Bool) → IsShapeOf f shape → samples ≡ f.samples
+pub bits_of : (f : Picture) (component : ℕ) (view : ComponentView) (p : Parameters) (s after : Coding) (bits new : List Bool) → IsComponentOf f component view
     → s ≡ state_of p [] → bits ≡ []
-    → all_from (component_plane shape.width shape.components component samples) new after []
-    ≡ all_from (component_plane shape.width shape.components component samples) bits s (rows_from (component_plane shape.width shape.components component samples) shape.height 0 ++ [])
+    → all_from (component_plane view.shape.width view.shape.components view.component (numbers view.samples)) new after []
+    ≡ all_from (component_plane view.shape.width view.shape.components view.component (numbers view.samples)) bits s (rows_from (component_plane view.shape.width view.shape.components view.component (numbers view.samples)) view.shape.height 0 ++ [])
     → new ≡ plane_bits p (plane_of f component)
-bits_of f shape samples p s after component bits new is samples_are e none rows =
-    let plane : Plane = component_plane shape.width shape.components component samples in
-    let same : plane ≡ plane_of f component =
-    ap (λ w. component_plane w shape.components component samples) is.width ∙ ap (λ n. component_plane f.width n component samples) is.count
-    ∙ ap (component_plane f.width (components f.kind) component) samples_are in
+bits_of f component view p s after bits new is e none rows =
+    let plane : Plane = component_plane view.shape.width view.shape.components view.component (numbers view.samples) in
     all_rows p f is.formed component new after
-    (subst (λ (q : Plane). all_from q new after [] ≡ all_from q [] (state_of p []) (rows_from q f.height 0 ++ [])) same
-    (rows ∙ ap (λ (x : List Bool). all_from plane x s (rows_from plane shape.height 0 ++ [])) none
-    ∙ ap (λ (t : Coding). all_from plane [] t (rows_from plane shape.height 0 ++ [])) e
+    (subst (λ (q : Plane). all_from q new after [] ≡ all_from q [] (state_of p []) (rows_from q f.height 0 ++ [])) is.plane
+    (rows ∙ ap (λ (x : List Bool). all_from plane x s (rows_from plane view.shape.height 0 ++ [])) none
+    ∙ ap (λ (t : Coding). all_from plane [] t (rows_from plane view.shape.height 0 ++ [])) e
     ∙ ap (λ h. all_from plane [] (state_of p []) (rows_from plane h 0 ++ [])) is.height))
 
-pub within_of : (f : Picture) (shape : Shape) (samples : List ℕ) (p : Parameters) (s : Coding) (component : ℕ) → IsShapeOf f shape → samples ≡ f.samples → s ≡ state_of p [] → p.maxval ≡ f.maxval
-    → ((k : ℕ) → get_or (component_plane shape.width shape.components component samples).samples k 0 ≤ s.parameters.maxval)
+pub within_of : (f : Picture) (component : ℕ) (view : ComponentView) (p : Parameters) (s : Coding) → IsComponentOf f component view → s ≡ state_of p [] → p.maxval ≡ f.maxval
+    → ((k : ℕ) → get_or (component_plane view.shape.width view.shape.components view.component (numbers view.samples)).samples k 0 ≤ s.parameters.maxval)
     → (k : ℕ) → get_or (plane_of f component).samples k 0 ≤ f.maxval
-within_of f shape samples p s component is same e maxval within k =
+within_of f component view p s is e maxval within k =
     omega (
       arith,
       within k,
-      ap (λ n. get_or (component_of n component samples) k 0) is.count,
-      ap (λ xs. get_or (component_of (components f.kind) component xs) k 0) same,
+      ap (λ (q : Plane). get_or q.samples k 0) is.plane,
       ap (λ (t : Coding). t.parameters.maxval) e,
       ap (λ (q : Parameters). q.maxval) (parameters_of p []),
     )
 
-pub small_of : (f : Picture) (samples : List ℕ) (p : Parameters) (s : Coding) → IsFrame f → samples ≡ f.samples → s ≡ state_of p [] → p.maxval ≡ f.maxval → (k : ℕ) → get_or samples k 0 ≤ s.parameters.maxval
-small_of f samples p s frame same e maxval k =
-    omega (arith, samples_small f frame k, ap (λ xs. get_or xs k 0) same, ap (λ (t : Coding). t.parameters.maxval) e, ap (λ (q : Parameters). q.maxval) (parameters_of p []))
+pub small_of : (f : Picture) (component : ℕ) (view : ComponentView) (p : Parameters) (s : Coding) → IsFrame f → IsComponentOf f component view → s ≡ state_of p [] → p.maxval ≡ f.maxval
+    → (k : ℕ) → get_or (numbers view.samples) k 0 ≤ s.parameters.maxval
+small_of f component view p s frame is e maxval k =
+    omega (arith, is.small frame k, ap (λ (t : Coding). t.parameters.maxval) e, ap (λ (q : Parameters). q.maxval) (parameters_of p []))
 
 -- ---- planes
 

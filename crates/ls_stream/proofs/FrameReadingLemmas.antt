@@ -22,12 +22,14 @@ use Rattle.ls_stream.specs.declared.faults.StreamFault.{StreamFault}
 use Rattle.ls_stream.specs.declared.faults.StreamFault.TheVariants.{NoMemory}
 use Rattle.ls_stream.specs.declared.segments.read.FrameHeader.{FrameHeader}
 use Rattle.ls_stream.specs.Planes.{Plane, IsSamplePlane}
-use Rattle.ls_stream.specs.Components.{component_of, component_plane, plane_of}
+use Rattle.ls_stream.specs.Components.{component_of, component_plane, plane_of, arranged}
+use Rattle.ls_stream.specs.declared.arranged.Arrangement.{Arrangement}
 use Rattle.ls_stream.specs.Grammar.{IsCoded, Spells, most_bytes}
 use Rattle.ls_stream.specs.View.FirstFaults.{BreaksData, IsPlaneData}
 use Rattle.ls_stream.specs.View.Reading.{◌>>=◌, Take, Gives, opening_at, next_scan_at, end_at}
 use Rattle.ls_stream.specs.View.Outlines.{scans_at, outline_at, ids_in, data_at, after_data, ScansStop, Outline, AreDataOf, IsOutlineOf, of_all, outline_of}
 use Rattle.ls_stream.specs.View.Decoding.{scan_in, AreScansOf, NoScans, picture}
+use Rattle.ls_stream.proofs.ArrangedLemmas.{arranged_length, arranged_small}
 use Rattle.ls_stream.proofs.FrameLemmas.{samples_small, none_found, some_components, plane_length, plane_small}
 use Rattle.ls_stream.proofs.ScanReadingLemmas.{component_at, is_sample_plane}
 use Rattle.ls_stream.proofs.StepLemmas.{step_ok, step_is, same_ok}
@@ -365,25 +367,25 @@ id_after header component h =
     ∙ sym (get_or-take (components header.kind) header.ids (1 + component) 0 (omega arith))
     ∙ sym (get_or-drop 1 (ids_in header) component 0)
 
--- for a shape with the numbers of a header
-pub scan_read : (p : Parameters) (w h n width height count component : ℕ) (bytes samples new : List ℕ) → w ≡ width → h ≡ height → n ≡ count → component < n
-    → length samples ≡ height * width * count → IsCoded p (component_plane w n component new) (data_at bytes)
-    → ((plane : Plane) → IsSamplePlane p.maxval w h plane → IsCoded p plane (data_at bytes) → plane ≡ component_plane w n component new)
-    → ((k other : ℕ) → other < n → other ≢ component → get_or new (k * n + other) 0 ≡ get_or samples (k * n + other) 0) → length new ≡ length samples
-    → ((k : ℕ) → get_or new k 0 ≤ p.maxval) → IsScanRead p width height count component bytes samples new
-scan_read p w h n width height count component bytes samples new ew eh en inside whole coded only others len small =
-    subst (λ x. IsScanRead p x height count component bytes samples new) ew
-    (subst (λ x. IsScanRead p w x count component bytes samples new) eh
-    (subst (λ x. IsScanRead p w h x component bytes samples new) en
+-- for a shape with the numbers of a header, and samples that are arranged so
+pub scan_read : (a : Arrangement) (p : Parameters) (w h n width height count component : ℕ) (bytes samples new : List ℕ) → w ≡ width → h ≡ height → n ≡ count → component < n
+    → length samples ≡ height * width * count → IsCoded p (component_plane w n component (arranged a n new)) (data_at bytes)
+    → ((plane : Plane) → IsSamplePlane p.maxval w h plane → IsCoded p plane (data_at bytes) → plane ≡ component_plane w n component (arranged a n new))
+    → ((k other : ℕ) → other < n → other ≢ component → get_or (arranged a n new) (k * n + other) 0 ≡ get_or (arranged a n samples) (k * n + other) 0) → length new ≡ length samples
+    → ((k : ℕ) → get_or new k 0 ≤ p.maxval) → IsScanRead p width height count component bytes (arranged a count samples) (arranged a count new)
+scan_read a p w h n width height count component bytes samples new ew eh en inside whole coded only others len small =
+    subst (λ x. IsScanRead p x height count component bytes (arranged a count samples) (arranged a count new)) ew
+    (subst (λ x. IsScanRead p w x count component bytes (arranged a count samples) (arranged a count new)) eh
+    (subst (λ x. IsScanRead p w h x component bytes (arranged a x samples) (arranged a x new)) en
     (record {
       coded = coded;
       only = only;
       others = others;
-      len = len;
-      whole = whole ∙ ap (λ x. height * width * x) (sym en) ∙ ap (λ x. height * x * n) (sym ew) ∙ ap (λ x. x * w * n) (sym eh);
+      len = arranged_length a n new ∙ len ∙ sym (arranged_length a n samples);
+      whole = arranged_length a n samples ∙ whole ∙ ap (λ x. height * width * x) (sym en) ∙ ap (λ x. height * x * n) (sym ew) ∙ ap (λ x. x * w * n) (sym eh);
       some = omega arith;
       component_is = inside;
-      small = small;
+      small = arranged_small a n p.maxval new small;
     })))
 
 pub data_breaks : (p : Parameters) (w h n width height component : ℕ) (bytes : List ℕ) (fault : StreamFault) → w ≡ width → h ≡ height → n ≡ component

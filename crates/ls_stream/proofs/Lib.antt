@@ -1,6 +1,7 @@
 pub mod AheadLemmas
 pub mod AlikeLaws
 pub mod AlongLemmas
+pub mod ArrangedLemmas
 pub mod BlockLemmas
 pub mod BreakLemmas
 pub mod BreakingLemmas

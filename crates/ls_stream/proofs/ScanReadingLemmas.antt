@@ -144,7 +144,7 @@ same_plane : (p q : Plane) → p.width ≡ q.width → p.samples ≡ q.samples �
 same_plane p q e f =
     ap (λ w. let plane : Plane = record { width = w; samples = p.samples } in plane) e ∙ ap (λ xs. let plane : Plane = record { width = q.width; samples = xs } in plane) f
 
-component_length : (width height count component : ℕ) (samples : List ℕ) → 1 ≤ count → length samples ≡ height * width * count → length (component_of count component samples) ≡ height * width
+pub component_length : (width height count component : ℕ) (samples : List ℕ) → 1 ≤ count → length samples ≡ height * width * count → length (component_of count component samples) ≡ height * width
 unfolding component_of
 component_length width height count component samples some e =
     let positive : 0 < count = omega arith in

@@ -1,3 +1,4 @@
+pub mod Arrangements
 pub mod BitFaults
 pub mod Blocks
 pub mod Coded
@@ -9,4 +10,3 @@ pub mod Openings
 pub mod Outlines
 pub mod Places
 pub mod Reading
-pub mod Shapes

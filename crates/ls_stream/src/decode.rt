@@ -8,7 +8,7 @@ ghost use Rattle.std.specs.Prelude.{◌≡◌, ◌≢◌, ◌⊎◌, ◌+◌, �
 ghost use Rattle.ls_bits.specs.Data.{stop_at};
 ghost use Rattle.ls_frame.specs.Picture.{Picture, IsFrame, picture_of, components, sample_count, most_samples};
 ghost use Rattle.ls_stream.specs.Planes.{Plane, IsSamplePlane};
-ghost use Rattle.ls_stream.specs.Components.{component_plane};
+ghost use Rattle.ls_stream.specs.Components.{component_plane, arranged};
 ghost use Rattle.ls_stream.specs.Grammar.{IsCoded, Spells, most_bytes};
 ghost use Rattle.ls_stream.specs.Faults.{BeginsWithOpening};
 ghost use Rattle.ls_stream.specs.View.FirstFaults.{BreaksData};
@@ -16,12 +16,13 @@ ghost use Rattle.ls_stream.specs.View.Reading.{opening_at, Gives};
 ghost use Rattle.ls_stream.specs.View.Outlines.{Outline, IsOutlineOf, ids_in, scans_at, rest_of, outline_at, data_at, after_data, ScansStop, DecodingStops, outline_of, IsFirstFault};
 ghost use Rattle.ls_stream.specs.View.Decoding.{AreScansOf, NoScans, fault_in, picture};
 
+use crate::arranged::{Arrangement, area_of};
 use crate::buffers::Lines;
 use crate::decode::markers::{fault_of, find_end, find_next_scan, first_bytes, read_opening};
 use crate::decode::scan::{ScanFault, decode_scan};
 use crate::faults::StreamFault;
 use crate::segments::read::FrameHeader;
-use crate::shape::Shape;
+use crate::shape::{Shape, shape_of};
 use ls_bits::{CodeFault, Stop, data_of};
 use ls_coding::Regions;
 use ls_frame::{Form, Frame, Presets, Sample};
@@ -218,9 +219,33 @@ impl<'a> Opening<'a> {
         ensures memory { IfErr result (λ fault. fault ≢ StreamFault.NoMemory) }
         ensures lines { lines.new ≡ lines.old }
     {
+        self.decode_arranged(Arrangement::Pixels, lines, regions, samples)
+    }
+
+    /// As `decode`, into samples that are arranged so.
+    pub fn decode_arranged<S: Sample>(
+        &self,
+        arrangement: Arrangement,
+        lines: &mut Lines,
+        regions: &Regions,
+        samples: &mut [S],
+    ) -> Result<usize, StreamFault>
+        requires regions { regions.now ≡ self.now.parameters }
+        requires width { self.now.width ≤ lines.old }
+        requires fits { self.now.parameters.maxval ≤ S.most }
+        requires samples { length (S.numbers samples.old) ≡ sample_count self.now.kind self.now.width self.now.height }
+        requires small { (k : ℕ) → slice_index (S.numbers samples.old) k ≤ self.now.parameters.maxval }
+        ensures ok { IfOk result (λ used. (used ≤ length self.now.bytes) × Spells (take used self.now.bytes) (picture_of (opened_form self.now) (arranged arrangement (components self.now.kind) (S.numbers samples.new)))) }
+        ensures complete { (front rest : List ℕ) (f : Picture) → self.now.bytes ≡ front ++ rest → Spells front f
+            → MatchResult result (λ used. (picture_of (opened_form self.now) (arranged arrangement (components self.now.kind) (S.numbers samples.new)) ≡ f) × (used ≡ length front)) (λ fault. ⊥) }
+        ensures first { IfErr result (λ fault. IsFirstFault self.now.bytes fault) }
+        ensures memory { IfErr result (λ fault. fault ≢ StreamFault.NoMemory) }
+        ensures lines { lines.new ≡ lines.old }
+    {
         let first = first_bytes(self.bytes);
         match decode_opened(
             first,
+            arrangement,
             (self.header, self.presets, self.rest),
             lines,
             regions,
@@ -258,6 +283,7 @@ impl<'a> Opening<'a> {
 /// Returns the number of bytes of the codestream.
 fn decode_opened<S: Sample>(
     bytes: &[u8],
+    arrangement: Arrangement,
     opening: (FrameHeader, Presets, &[u8]),
     lines: &mut Lines,
     regions: &Regions,
@@ -273,10 +299,10 @@ fn decode_opened<S: Sample>(
     requires samples { length (S.numbers samples.old) ≡ sample_count opening.0.kind opening.0.width opening.0.height }
     requires small { (k : ℕ) → slice_index (S.numbers samples.old) k ≤ opening.1.maxval }
     ensures ok { IfOk result (λ used. (o : Outline) × (left : List ℕ) × (outline_at bytes.now ≡ Ok (o, left))
-        × IsFrame (picture opening.entry.0 opening.entry.1.maxval (S.numbers samples.new)) × IsOutlineOf (picture opening.entry.0 opening.entry.1.maxval (S.numbers samples.new)) o
+        × IsFrame (picture opening.entry.0 opening.entry.1.maxval (arranged arrangement (components opening.entry.0.kind) (S.numbers samples.new))) × IsOutlineOf (picture opening.entry.0 opening.entry.1.maxval (arranged arrangement (components opening.entry.0.kind) (S.numbers samples.new))) o
         × (used + length left ≡ length bytes.now)) }
     ensures only { IfOk result (λ used. (o : Outline) (left : List ℕ) (f : Picture) → outline_at bytes.now ≡ Ok (o, left)
-        → IsFrame f → IsOutlineOf f o → picture opening.entry.0 opening.entry.1.maxval (S.numbers samples.new) ≡ f) }
+        → IsFrame f → IsOutlineOf f o → picture opening.entry.0 opening.entry.1.maxval (arranged arrangement (components opening.entry.0.kind) (S.numbers samples.new)) ≡ f) }
     ensures none { IfErr result (λ fault. (o : Outline) (left : List ℕ) (f : Picture) → outline_at bytes.now ≡ Ok (o, left)
         → IsFrame f → IsOutlineOf f o → ⊥) }
     ensures stops { IfErr result (λ fault. DecodingStops bytes.now fault) }
@@ -284,7 +310,15 @@ fn decode_opened<S: Sample>(
 {
     let (header, presets, rest) = opening;
     prove!(presets.maxval() > 0);
-    match decode_scans(&presets, regions, &header, lines, samples, rest) {
+    match decode_scans(
+        &presets,
+        regions,
+        &header,
+        arrangement,
+        lines,
+        samples,
+        rest,
+    ) {
         Ok(left) => Ok(bytes.len() - left.len()),
         Err(fault) => Err(fault),
     }
@@ -296,6 +330,7 @@ fn decode_scans<'a, S: Sample>(
     presets: &Presets,
     regions: &Regions,
     header: &FrameHeader,
+    arrangement: Arrangement,
     lines: &mut Lines,
     samples: &mut [S],
     bytes: &'a [u8],
@@ -309,7 +344,7 @@ fn decode_scans<'a, S: Sample>(
     requires few { header.now.height * header.now.width * components header.now.kind < 2 ^ 32 }
     requires small { (k : ℕ) → slice_index (S.numbers samples.old) k ≤ presets.now.maxval }
     ensures scans { IfOk result (λ rest. (scans : List (List ℕ)) × (scans_at (drop 1 (ids_in header.now)) bytes.now ≡ Ok (scans, rest.now))
-        × AreScansOf presets.now header.now.width header.now.height (components header.now.kind) (S.numbers samples.new) scans) }
+        × AreScansOf presets.now header.now.width header.now.height (components header.now.kind) (arranged arrangement (components header.now.kind) (S.numbers samples.new)) scans) }
     ensures none { IfErr result (λ fault. (scans : List (List ℕ)) (left : List ℕ) → scans_at (drop 1 (ids_in header.now)) bytes.now ≡ Ok (scans, left)
         → NoScans presets.now header.now.width header.now.height (components header.now.kind) scans) }
     ensures stops { IfErr result (λ fault. ScansStop presets.now header.now.width header.now.height 0 (drop 1 (ids_in header.now)) bytes.now fault) }
@@ -317,14 +352,32 @@ fn decode_scans<'a, S: Sample>(
     ensures len { length (S.numbers samples.new) ≡ length (S.numbers samples.old) }
     ensures lines { lines.new ≡ lines.old }
 {
-    let shape = shape_of(header);
+    let shape = shape_of(header.kind, header.width, header.height);
     let last = shape.components - 1;
     let mut rest = bytes;
     for component in 0..last {
-        let after = decode_data(presets, regions, lines, samples, shape, component, rest)?;
+        let after = decode_data(
+            presets,
+            regions,
+            arrangement,
+            lines,
+            samples,
+            shape,
+            component,
+            rest,
+        )?;
         rest = find_next_scan(header.ids[component + 1], after)?;
     }
-    let after = decode_data(presets, regions, lines, samples, shape, last, rest)?;
+    let after = decode_data(
+        presets,
+        regions,
+        arrangement,
+        lines,
+        samples,
+        shape,
+        last,
+        rest,
+    )?;
     find_end(after)
 }
 
@@ -353,6 +406,7 @@ fn after_data(bytes: &[u8]) -> &[u8]
 fn decode_data<'a, S: Sample>(
     presets: &Presets,
     regions: &Regions,
+    arrangement: Arrangement,
     lines: &mut Lines,
     samples: &mut [S],
     shape: Shape,
@@ -370,28 +424,35 @@ fn decode_data<'a, S: Sample>(
     requires component { component < shape.components }
     requires components { shape.components ≤ 3 }
     ensures rest { IfOk result (λ rest. rest.now ≡ after_data bytes.now) }
-    ensures coded { IfOk result (λ _. IsCoded presets.now (component_plane shape.width shape.components component (S.numbers samples.new)) (data_at bytes.now)) }
+    ensures coded { IfOk result (λ _. IsCoded presets.now (component_plane shape.width shape.components component (arranged arrangement shape.components (S.numbers samples.new))) (data_at bytes.now)) }
     ensures only { IfOk result (λ _. (plane : Plane) → IsSamplePlane presets.now.maxval shape.width shape.height plane
-        → IsCoded presets.now plane (data_at bytes.now) → plane ≡ component_plane shape.width shape.components component (S.numbers samples.new)) }
+        → IsCoded presets.now plane (data_at bytes.now) → plane ≡ component_plane shape.width shape.components component (arranged arrangement shape.components (S.numbers samples.new))) }
     ensures none { IfErr result (λ _. (plane : Plane) → IsSamplePlane presets.now.maxval shape.width shape.height plane
         → IsCoded presets.now plane (data_at bytes.now) → ⊥) }
     ensures breaks { IfErr result (λ fault. BreaksData presets.now shape.width shape.height component
         (data_at bytes.now) (stop_at (after_data bytes.now)) fault) }
     ensures others { (k other : ℕ) → other < shape.components → other ≢ component
-        → slice_index (S.numbers samples.new) (k * shape.components + other) ≡ slice_index (S.numbers samples.old) (k * shape.components + other) }
+        → slice_index (arranged arrangement shape.components (S.numbers samples.new)) (k * shape.components + other)
+        ≡ slice_index (arranged arrangement shape.components (S.numbers samples.old)) (k * shape.components + other) }
     ensures small { (k : ℕ) → slice_index (S.numbers samples.new) k ≤ presets.now.maxval }
     ensures len { length (S.numbers samples.new) ≡ length (S.numbers samples.old) }
     ensures lines { lines.new ≡ lines.old }
 {
     let found = data_of(bytes);
+    let area = area_of(arrangement, shape, component);
+    let (_, rest) = samples.split_at_mut(area.start);
     let read = decode_scan(
         presets,
         regions,
         &bytes[..found.len],
         lines,
-        samples,
-        shape,
-        component,
+        &mut rest[..area.count],
+        Shape {
+            width: shape.width,
+            height: shape.height,
+            components: area.components,
+        },
+        area.component,
     );
     match read {
         Ok(()) => Ok(&bytes[found.len..]),
@@ -408,18 +469,5 @@ fn fault_in(component: u8, stop: Stop, fault: ScanFault) -> StreamFault
         ScanFault::Code(CodeFault::OutOfBits) if stop == Stop::End => StreamFault::Truncated,
         ScanFault::Code(_) => StreamFault::BadCode(component),
         ScanFault::LeftoverBits => StreamFault::LeftoverBits(component),
-    }
-}
-
-/// The shape of a header's frame.
-fn shape_of(header: &FrameHeader) -> Shape
-    ensures width { result.width ≡ header.now.width }
-    ensures height { result.height ≡ header.now.height }
-    ensures count { result.components ≡ components header.now.kind }
-{
-    Shape {
-        width: usize::from(header.width),
-        height: usize::from(header.height),
-        components: usize::from(header.kind.components()),
     }
 }

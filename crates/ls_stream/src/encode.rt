@@ -3,19 +3,20 @@ mod coder;
 mod row;
 mod scan;
 
-ghost use Rattle.std.specs.Prelude.{◌≡◌, ◌+◌, ◌-◌, ◌*◌, ◌/◌, ◌^◌, ◌<◌, ◌≤◌, ◌++◌, true, false, List, length, take, drop, map, flat_map, IfOk, IfSome, MatchOption, vec_len, vec_capacity, if◌then◌else◌};
+ghost use Rattle.std.specs.Prelude.{◌≡◌, ◌+◌, ◌-◌, ◌*◌, ◌/◌, ◌^◌, ◌<◌, ◌≤◌, ◌++◌, true, false, List, length, take, drop, map, flat_map, IfOk, IfSome, IfNone, MatchOption, vec_len, vec_capacity, if◌then◌else◌};
 ghost use Rattle.std.specs.List.{range_with_len};
 ghost use Rattle.ls_frame.specs.Picture.{IsFormed, IsFrame, components};
 ghost use Rattle.ls_frame.specs.Parameters.{limit_of, default_parameters};
 ghost use Rattle.ls_stream.specs.Layout.{codestream, scans_up_to, headers_length, scan_bound, bound};
 
+use crate::arranged::{ArrangedView, Arrangement};
 use crate::buffers::Lines;
 use crate::marker::Marker;
 use crate::segments::write::{
     presets_length, put_frame_header, put_marker, put_presets_if_needed, put_scan_header,
 };
 use ls_bits::{Room, SliceRoom};
-use ls_frame::{Frame, FrameView, PictureView, Presets};
+use ls_frame::{Frame, Presets};
 use scan::put_scan;
 use std::alloc::{AllocError, Global};
 
@@ -43,7 +44,7 @@ pub fn encode_with(alloc: Global, frame: &Frame, presets: &Presets) -> Result<Ve
     ensures short { IfOk result (λ bytes. length bytes.items < 2 ^ 32) }
     ensures capacity { IfOk result (λ bytes. vec_capacity bytes ≡ bound frame.now presets.now) }
 {
-    match encode_picture(alloc, frame.view().picture(), presets)? {
+    match encode_picture(alloc, &view_of(frame), presets)? {
         Some(bytes) => Ok(bytes),
         None => unreachable!(),
     }
@@ -53,7 +54,7 @@ pub fn encode_with(alloc: Global, frame: &Frame, presets: &Presets) -> Result<Ve
 /// maxval. Each row is checked when it is coded, so that the samples are fetched from memory once.
 pub fn encode_picture(
     alloc: Global,
-    picture: &PictureView,
+    picture: &ArrangedView,
     presets: &Presets,
 ) -> Result<Option<Vec<u8>>, AllocError>
     requires maxval { presets.now.maxval ≡ picture.now.maxval }
@@ -85,38 +86,51 @@ pub fn encode_within(frame: &Frame, presets: &Presets, lines: &mut Lines, bytes:
     ensures lines { lines.new ≡ lines.old }
 {
     let mut bytes = bytes;
-    let _frame = put_codestream(frame.view().picture(), presets, lines, &mut bytes);
+    let _frame = put_codestream(&view_of(frame), presets, lines, &mut bytes);
     bytes
 }
 
-/// Writes the codestream of a frame to the front of a slice and returns its number of bytes. The bytes after it don't
-/// change.
+/// Writes the codestream of a picture to the front of a slice and returns its number of bytes. The bytes after it don't
+/// change. `None` exactly if a sample is over maxval: all are checked first, and no byte changes then.
 ///
-/// It requires parameters of the frame's maxval, lines at least as wide as the frame, and a slice of at least
-/// `picture_bound` bytes. It allocates nothing and cannot fail.
+/// It requires parameters of the picture's maxval, lines at least as wide as the picture, and a slice of at least
+/// `picture_bound` bytes. It allocates nothing.
 pub fn encode_into(
-    frame: &FrameView,
+    picture: &ArrangedView,
     presets: &Presets,
     lines: &mut Lines,
     bytes: &mut [u8],
-) -> usize
-    requires maxval { presets.now.maxval ≡ frame.now.maxval }
-    requires width { frame.now.width ≤ lines.old }
-    requires room { bound frame.now presets.now ≤ length bytes.old }
-    ensures bytes { take result bytes.new ≡ codestream frame.now presets.now }
-    ensures count { result ≡ length (codestream frame.now presets.now) }
-    ensures rest { drop result bytes.new ≡ drop result bytes.old }
+) -> Option<usize>
+    requires maxval { presets.now.maxval ≡ picture.now.maxval }
+    requires width { picture.now.width ≤ lines.old }
+    requires room { bound picture.now presets.now ≤ length bytes.old }
+    ensures exactly { MatchOption result (IsFormed picture.now × (IsFrame picture.now → ⊥)) (λ count. IsFrame picture.now) }
+    ensures bytes { IfSome result (λ count. take count bytes.new ≡ codestream picture.now presets.now) }
+    ensures count { IfSome result (λ count. count ≡ length (codestream picture.now presets.now)) }
+    ensures rest { IfSome result (λ count. drop count bytes.new ≡ drop count bytes.old) }
+    ensures kept { IfNone result (bytes.new ≡ bytes.old) }
     ensures lines { lines.new ≡ lines.old }
 {
+    if !picture.is_frame() {
+        return None;
+    }
     let mut room = SliceRoom::new(bytes);
-    let _frame = put_codestream(frame.picture(), presets, lines, &mut room);
-    room.len()
+    let _frame = put_codestream(picture, presets, lines, &mut room);
+    Some(room.len())
+}
+
+/// A frame as a picture to be encoded.
+fn view_of(frame: &Frame) -> ArrangedView<'_>
+    ensures value { result ≡ frame.now }
+    ensures lawful { IsFrame frame.now }
+{
+    ArrangedView::new(frame.view().picture(), Arrangement::Pixels)
 }
 
 /// Appends the codestream of a picture to a `Room`, if the picture is a frame. If a sample is over maxval, returns
 /// false, and the appended bytes are of no use.
 fn put_codestream<R: Room>(
-    picture: &PictureView,
+    picture: &ArrangedView,
     presets: &Presets,
     lines: &mut Lines,
     bytes: &mut R,
@@ -149,11 +163,11 @@ pub fn code_bound(frame: &Frame, presets: &Presets) -> u64
     ensures enough { length (codestream frame.now presets.now) ≤ result }
     ensures small { result < 2 ^ 32 }
 {
-    picture_bound(frame.view().picture(), presets)
+    picture_bound(&view_of(frame), presets)
 }
 
 /// As `code_bound`, for a picture in the caller's memory: the bound on the bytes of its codestream if it is a frame.
-pub fn picture_bound(picture: &PictureView, presets: &Presets) -> u64
+pub fn picture_bound(picture: &ArrangedView, presets: &Presets) -> u64
     requires maxval { presets.now.maxval ≡ picture.now.maxval }
     ensures value { result ≡ bound picture.now presets.now }
     ensures enough { IsFrame picture.now → length (codestream picture.now presets.now) ≤ result }
@@ -167,7 +181,7 @@ pub fn picture_bound(picture: &PictureView, presets: &Presets) -> u64
 /// The bytes of a codestream that aren't scan data: SOI, the frame header, preset parameters if they are written, a
 /// scan header for each component, EOI.
 #[tactic(auto, unfolding(crate::specs::Layout::headers_length))]
-fn headers_length(picture: &PictureView, presets: &Presets) -> u64
+fn headers_length(picture: &ArrangedView, presets: &Presets) -> u64
     ensures value { result ≡ headers_length picture.now presets.now }
     ensures small { result ≤ 68 }
 {
@@ -176,7 +190,7 @@ fn headers_length(picture: &PictureView, presets: &Presets) -> u64
 }
 
 /// An upper bound on the bytes of a scan's data.
-fn scan_bound(picture: &PictureView, presets: &Presets) -> u64
+fn scan_bound(picture: &ArrangedView, presets: &Presets) -> u64
     requires maxval { presets.now.maxval ≡ picture.now.maxval }
     ensures value { result ≡ scan_bound picture.now presets.now }
     ensures small { result ≤ 2 ^ 42 }
@@ -189,7 +203,7 @@ fn scan_bound(picture: &PictureView, presets: &Presets) -> u64
 /// Appends a scan header and its data for each component. Stops and returns false at the first one that has a sample
 /// over maxval.
 fn put_scans<R: Room>(
-    picture: &PictureView,
+    picture: &ArrangedView,
     presets: &Presets,
     lines: &mut Lines,
     bytes: &mut R,

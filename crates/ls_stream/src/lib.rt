@@ -19,16 +19,19 @@
 //! ```
 //!
 //! `encode_with` takes the coding parameters. `next_stream` takes one codestream after another from a reader.
-//! `encode_into` and `Opening` work in the caller's memory and allocate nothing.
+//! `encode_into` and `Opening` work in the caller's memory and allocate nothing. A caller's samples may be in the order
+//! of pixels or plane by plane (`Arrangement`).
 //!
-//! In reading order: `encode` (frames to codestreams), with `scan` (the rows of a component), `row` (a row from left to
-//! right) and `coder` (one event to bits); `decode`, its mirror image, with `markers` (what surrounds the data of
-//! scans), `scan`, `row` and `decoder` (one event from bits); `faults` (why bytes can't be decoded); `next` (one
-//! codestream at a time from a reader), with `awaited` (what its next byte is). Both directions share `marker`,
-//! `segments`, `shape` (the size of a picture), `lines` (padded lines of samples) and `buffers` (memory for two lines).
+//! In reading order: `encode` (frames to codestreams), with `arranged` (pictures over a caller's samples), `scan` (the
+//! rows of a component), `row` (a row from left to right) and `coder` (one event to bits); `decode`, its mirror image,
+//! with `markers` (what surrounds the data of scans), `scan`, `row` and `decoder` (one event from bits); `faults` (why
+//! bytes can't be decoded); `next` (one codestream at a time from a reader), with `awaited` (what its next byte is).
+//! Both directions share `marker`, `segments`, `shape` (the size of a picture), `lines` (padded lines of samples) and
+//! `buffers` (memory for two lines).
 //! `laws` has what follows from the definitions, and the round trip.
 #![tactic(auto)]
 
+pub mod arranged;
 mod buffers;
 pub mod decode;
 pub mod encode;
@@ -40,6 +43,7 @@ pub mod next;
 mod segments;
 mod shape;
 
+pub use arranged::{ArrangedView, Arrangement};
 pub use buffers::Lines;
 pub use decode::{Decoded, Opening, decode_frame};
 pub use encode::{

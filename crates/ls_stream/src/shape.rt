@@ -1,8 +1,8 @@
 //! The shape of a picture. Its samples are in rows from the top, and within a row pixel by pixel.
 ghost use Rattle.std.specs.Prelude.{◌≡◌};
-ghost use Rattle.ls_stream.specs.View.Shapes.{IsShapeOf};
+ghost use Rattle.ls_frame.specs.Picture.{components};
 
-use ls_frame::PictureView;
+use ls_frame::Kind;
 
 /// The number of pixels in a row, of rows, and of components.
 #[derive(Clone, Copy)]
@@ -12,14 +12,15 @@ pub struct Shape {
     pub components: usize,
 }
 
-/// The shape of a picture.
-pub fn shape_of(picture: &PictureView) -> Shape
-    ensures { IsShapeOf picture.now result }
+/// The shape of a picture of this kind and size.
+pub fn shape_of(kind: Kind, width: u16, height: u16) -> Shape
+    ensures width { result.width ≡ width }
+    ensures height { result.height ≡ height }
+    ensures count { result.components ≡ components kind }
 {
-    let form = picture.form();
     Shape {
-        width: usize::from(form.width),
-        height: usize::from(form.height),
-        components: usize::from(form.kind.components()),
+        width: usize::from(width),
+        height: usize::from(height),
+        components: usize::from(kind.components()),
     }
 }

@@ -5,10 +5,10 @@ use crate::testing::codestreams::{
 };
 use crate::testing::{
     Chance, PICTURES, Parts, Picture, Shape, check, drawn_frame, encode_tuned, frame_of,
-    longest_line, parts_of,
+    longest_line, parts_of, turned,
 };
 use ls_frame::{Frame, Kind, PresetFault};
-use ls_stream::{Decoded, Lines, Opening, Regions, StreamFault, What, decode_frame};
+use ls_stream::{Arrangement, Decoded, Lines, Opening, Regions, StreamFault, What, decode_frame};
 use std::alloc::{AllocError, Global};
 use std::process::Abort;
 use std::test::Fail;
@@ -41,6 +41,7 @@ fn check_opened(
     match Opening::read(bytes) {
         Ok(opening) => {
             check_opened_to_words(rt, alloc, name, &opening, want)?;
+            check_opened_to_planes(rt, alloc, name, &opening, want)?;
             check_opened_to_bytes(rt, alloc, name, &opening, want)
         }
         Err(fault) => {
@@ -89,6 +90,29 @@ fn check_opened_to_words(
     want: Answer<'_>,
 ) -> Result<(), AllocError> {
     let (used, samples) = opened_to_words(alloc, opening)?;
+    check_samples_of(rt, name, opening, used, &samples, want);
+    Ok(())
+}
+
+/// Decodes an opening's frame to planes, and puts their samples in the order of pixels.
+fn opened_to_planes(alloc: Global, opening: &Opening<'_>) -> Result<Opened<u16>, AllocError> {
+    let mut lines = Lines::new(alloc, opening.form().width)?;
+    let regions = Regions::new(alloc, opening.presets())?;
+    let mut planes = vec![in alloc; 0u16; opening.sample_count()]?;
+    let used = opening.decode_arranged(Arrangement::Planes, &mut lines, &regions, &mut planes);
+    let count = usize::from(opening.form().kind.components());
+    Ok((used, turned(alloc, &planes, count)?))
+}
+
+/// Checks what an opening's frame is decoded to in planes.
+fn check_opened_to_planes(
+    rt: &impl Abort,
+    alloc: Global,
+    name: &str,
+    opening: &Opening<'_>,
+    want: Answer<'_>,
+) -> Result<(), AllocError> {
+    let (used, samples) = opened_to_planes(alloc, opening)?;
     check_samples_of(rt, name, opening, used, &samples, want);
     Ok(())
 }

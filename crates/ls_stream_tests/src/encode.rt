@@ -3,12 +3,12 @@ mod sums;
 use crate::testing::codestreams::{CODESTREAMS, PLANES, Plane, TUNINGS, around_scan, height_of};
 use crate::testing::{
     Chance, PICTURES, Parts, Picture, Shape, Sum, check_bytes, check_number, check_sum,
-    drawn_frame, encode_tuned, frame_of, frame_of_parts, longest_line,
+    drawn_frame, encode_tuned, frame_of, frame_of_parts, longest_line, turned,
 };
 use ls_frame::{Form, Frame, Kind, PictureView, Presets, Samples};
 use ls_stream::{
-    Lines, code_bound, encode_frame, encode_into, encode_picture, encode_with, encode_within,
-    picture_bound,
+    ArrangedView, Arrangement, Lines, code_bound, encode_frame, encode_into, encode_picture,
+    encode_with, encode_within, picture_bound,
 };
 use std::alloc::{AllocError, Global};
 use std::process::Abort;
@@ -63,12 +63,31 @@ fn check_codestream(
     let explicit = encode_with(alloc, &frame, &presets)?;
     check_bytes(rt, "explicit", &explicit, want);
     let view = frame.view();
-    let pictured = encode_picture(alloc, view.picture(), &presets)?;
+    let view = ArrangedView::new(view.picture(), Arrangement::Pixels);
+    let pictured = encode_picture(alloc, &view, &presets)?;
     let pictured = pictured.unwrap_or(Vec::new(alloc));
     check_bytes(rt, "of a picture", &pictured, want);
-    let picture = picture_bound(view.picture(), &presets);
+    let picture = picture_bound(&view, &presets);
     check_number(rt, "bound of a picture", picture, bound);
     check_number(rt, "bound", code_bound(&frame, &presets), bound);
+    check_planes(rt, alloc, &frame, want)
+}
+
+/// Checks the codestream of a frame whose samples are plane by plane.
+fn check_planes(
+    rt: &impl Abort,
+    alloc: Global,
+    frame: &Frame,
+    want: &[u8],
+) -> Result<(), AllocError> {
+    let pixels = usize::from(frame.width()) * usize::from(frame.height());
+    let planes = turned(alloc, frame.samples(), pixels)?;
+    let picture = PictureView::new(frame.form(), Samples::Words(&planes)).expect(rt, "a picture");
+    let view = ArrangedView::new(&picture, Arrangement::Planes);
+    let presets = Presets::default_of(frame.maxval());
+    let pictured = encode_picture(alloc, &view, &presets)?;
+    let pictured = pictured.unwrap_or(Vec::new(alloc));
+    check_bytes(rt, "of planes", &pictured, want);
     Ok(())
 }
 
@@ -96,7 +115,12 @@ fn check_sample_over_maxval(
     if let Some(sample) = samples.get_mut(place) {
         *sample = 8;
     }
-    for (maxval, codestreams) in [(7, 0), (8, 1)] {
+    for (maxval, codestreams, arrangement) in [
+        (7, 0, Arrangement::Pixels),
+        (8, 1, Arrangement::Pixels),
+        (7, 0, Arrangement::Planes),
+        (8, 1, Arrangement::Planes),
+    ] {
         let form = Form {
             kind,
             width,
@@ -106,7 +130,8 @@ fn check_sample_over_maxval(
         let made = PictureView::new(form, Samples::Words(&samples));
         let picture = made.expect(rt, "a picture");
         let presets = Presets::default_of(maxval);
-        let coded = encode_picture(alloc, &picture, &presets)?;
+        let view = ArrangedView::new(&picture, arrangement);
+        let coded = encode_picture(alloc, &view, &presets)?;
         let coded = u64::from(coded.is_some());
         check_number(rt, "codestreams", coded, codestreams);
     }
@@ -193,12 +218,13 @@ fn encoded_into_a_slice(
 ) -> Result<(Vec<u8>, usize), AllocError> {
     let presets = Presets::default_of(frame.maxval());
     let view = frame.view();
-    let room = picture_bound(view.picture(), &presets) as usize;
+    let view = ArrangedView::new(view.picture(), Arrangement::Pixels);
+    let room = picture_bound(&view, &presets) as usize;
     check_number(rt, "bound of its picture", room as u64, bound);
     let mut bytes = vec![in alloc; 0x5Au8; room + 1]?;
     let mut lines = Lines::new(alloc, frame.width())?;
     let count = encode_into(&view, &presets, &mut lines, &mut bytes);
-    Ok((bytes, count))
+    Ok((bytes, count.unwrap_or(0)))
 }
 
 /// The number of these bytes that aren't 5A.

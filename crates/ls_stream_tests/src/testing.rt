@@ -63,6 +63,20 @@ pub fn frame_of_parts(
     frame_of(rt, alloc, kind, width, height, maxval, samples)
 }
 
+/// The samples of rows of equal length, `count` rows in all, column by column: so planes become pixels, if there are so
+/// many planes, and pixels become planes, if there are so many pixels.
+pub fn turned(alloc: Global, samples: &[u16], count: usize) -> Result<Vec<u16>, AllocError> {
+    let count = count.max(1);
+    let each = samples.len() / count;
+    let mut turned = Vec::new(alloc);
+    for place in 0..samples.len() {
+        let row = usize::saturating_mul(place % count, each);
+        let from = usize::saturating_add(row, place / count);
+        turned.push(*samples.get(from).unwrap_or(&0))?;
+    }
+    Ok(turned)
+}
+
 /// The codestream of a frame, coded by these T1, T2, T3 and RESET, each 0 for its default.
 pub fn encode_tuned(alloc: Global, frame: &Frame, chosen: [u16; 4]) -> Result<Vec<u8>, Fail> {
     let [t1, t2, t3, reset] = chosen;

@@ -11,6 +11,7 @@ import os
 import sys
 from typing import Union
 
+from .. import __version__
 from .._files import write_all
 from . import Refused
 
@@ -68,7 +69,8 @@ def _run(words: argparse.Namespace) -> int:
     second = getattr(words, "second", None)
     reread = getattr(words, "reread", False)
     parts = [os.path.normpath(os.fsencode(part)) if part else b"" for part in getattr(words, "parts", [])]
-    given = tree.Words(words.command, out, root, words.jobs, words.dask, second, words.report, reread, parts)
+    strict = getattr(words, "strict", False)
+    given = tree.Words(words.command, out, root, words.jobs, words.dask, second, words.report, reread, strict, parts)
     return {"compress": tree.compress, "restore": tree.restore, "verify": tree.verify}[words.command](given)
 
 
@@ -78,6 +80,7 @@ def _parser(program: str) -> argparse.ArgumentParser:
         description="DICOM files as films of their stored values, and recordings back in DICOM files; trees of DICOM "
         "files compressed to JPEG-LS, restored and verified.",
     )
+    parser.add_argument("--version", action="version", version=f"jlsrec-dicom {__version__}")
     commands = parser.add_subparsers(dest="command", required=True)
     film = commands.add_parser(
         "to-film",
@@ -126,7 +129,11 @@ def _add_trees(commands: argparse._SubParsersAction) -> None:
     restore.add_argument("out", metavar="OUT", help="a folder that a tree was compressed into")
     restore.add_argument("tree", metavar="TREE", help="the folder that gets the files")
     restore.add_argument(
-        "parts", metavar="PART", nargs="*", help="a file or a folder of OUT, by its name below OUT; by default all"
+        "parts",
+        metavar="PART",
+        nargs="*",
+        default=[],
+        help="a file or a folder of OUT, by its name below OUT; by default all",
     )
     verify = commands.add_parser(
         "verify",
@@ -136,6 +143,12 @@ def _add_trees(commands: argparse._SubParsersAction) -> None:
     )
     verify.add_argument("out", metavar="OUT", help="a folder that a tree was compressed into")
     verify.add_argument("tree", metavar="TREE", nargs="?", help="the tree that was compressed")
+    for command, files in ((compress, "TREE's JPEG-LS lossless files, and those that are made,"), (verify, "JPEG-LS files")):
+        command.add_argument(
+            "--strict",
+            action="store_true",
+            help=f"have {files} be strict: the data of each scan exactly those that encoding gives",
+        )
     for command in (compress, restore, verify):
         workers = command.add_mutually_exclusive_group()
         workers.add_argument(
@@ -150,10 +163,10 @@ def _add_trees(commands: argparse._SubParsersAction) -> None:
 
 
 def _count(word: str) -> int:
-    number = int(word)
-    if not 1 <= number <= 1024:
-        raise argparse.ArgumentTypeError("not 1 to 1024")
-    return number
+    """A number of processes."""
+    if not (word.isascii() and word.isdigit() and len(word) < 9 and 1 <= int(word) <= 1024):
+        raise argparse.ArgumentTypeError(f"{word!r} isn't a number from 1 to 1024")
+    return int(word)
 
 
 def hold_standard_streams() -> None:

@@ -13,7 +13,7 @@ import hashlib
 import struct
 from collections.abc import Callable, Iterator
 from dataclasses import dataclass
-from typing import Optional, Protocol
+from typing import Any, Optional, Protocol
 
 import numpy as np
 
@@ -170,11 +170,21 @@ class Picture:
 
 def front_of(file: Reads) -> Front:
     """The front of a file. Raises Left if the file isn't one that is coded, or is coded already."""
+    return _read_in(file, _front)
+
+
+def syntax_of(file: Reads) -> str:
+    """The transfer syntax of a file. Raises Left if it isn't a DICOM file."""
+    return _read_in(file, _syntax)[0]
+
+
+def _read_in(file: Reads, read: Callable[[bytes, int], Any]) -> Any:
+    """What is read in the first bytes of a file, of which no more are taken than that needs."""
     count = FIRST
     while True:
         data = file.read(0, min(count, file.size))
         try:
-            return _front(data, file.size)
+            return read(data, file.size)
         except TooShort:
             if len(data) == file.size:
                 raise Left("it breaks off within an element") from None
@@ -248,13 +258,19 @@ def picture_of(front: Front) -> Picture:
     signed = front.number(SIGNED)
     if signed > 1:
         raise Left(f"its Pixel Representation is {signed}")
-    text = front.values.get(FRAMES, b"1").strip(b"\0 ")
-    if not text.isdigit() or int(text) == 0:
-        raise Left(f"its Number of Frames is {text.decode('ascii', 'backslashreplace')!r}")
+    frames = frames_in(front)
     rows, columns = front.number(ROWS), front.number(COLUMNS)
     if min(rows, columns) == 0 or rows * columns * colors > MOST_SAMPLES:
         raise Left(f"its frames are {columns} by {rows} of {colors}")
-    return Picture(int(text), rows, columns, colors, allocated, stored, signed == 1)
+    return Picture(frames, rows, columns, colors, allocated, stored, signed == 1)
+
+
+def frames_in(front: Front) -> int:
+    """The Number of Frames of a file, 1 if it says none. Raises Left if that isn't a number over 0."""
+    text = front.values.get(FRAMES, b"1").strip(b"\0 ")
+    if not text.isdigit() or int(text) == 0:
+        raise Left(f"its Number of Frames is {text.decode('ascii', 'backslashreplace')!r}")
+    return int(text)
 
 
 def planar_of(front: Front) -> int:
@@ -449,14 +465,14 @@ def raw_chunks(file: Reads, origin: Origin, see: Optional[Callable[[np.ndarray],
 
 def _raw_frames(file: Reads, at: int, picture: Picture, planar: int, see: Optional[Callable]) -> Iterator[bytes]:
     """The bytes of the frames' values. Answers where the pixel data end."""
-    tag, length = _item(file, at)
+    tag, length = item_at(file, at)
     if tag != ITEM or length != 4 * picture.frames:
         raise Damaged("it has no table of its frames")
     table = np.frombuffer(file.read(at + 8, length), "<u4").tolist()
     at = begin = at + 8 + length
     shape = (picture.rows, picture.columns) + ((3,) if picture.colors == 3 else ())
     for start in table:
-        tag, length = _item(file, at)
+        tag, length = item_at(file, at)
         if tag != ITEM or at - begin != start:
             raise Damaged(f"there is no fragment at byte {at}")
         fragment = file.read(at + 8, length)
@@ -470,12 +486,12 @@ def _raw_frames(file: Reads, at: int, picture: Picture, planar: int, see: Option
             see(array)
         yield picture.data(array, planar)
         at += 8 + length
-    if _item(file, at) != (SEQUENCE_END, 0):
+    if item_at(file, at) != (SEQUENCE_END, 0):
         raise Damaged(f"its frames don't end at byte {at}")
     return at + 8
 
 
-def _item(file: Reads, at: int) -> tuple[int, int]:
+def item_at(file: Reads, at: int) -> tuple[int, int]:
     """The tag and the length of an item."""
     if at + 8 > file.size:
         raise Damaged("it breaks off within its frames")

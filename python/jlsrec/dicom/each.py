@@ -19,7 +19,7 @@ from typing import Any, Optional, Union
 import numpy as np
 
 from .._files import sync_folder
-from . import manifest, second
+from . import manifest, second, strictly
 from .coded import Damaged, Origin, Plan, raw_chunks, sum_of
 from .elements import Left
 from .places import Changed, Part, Source, Taken, make_folders, standing
@@ -47,6 +47,8 @@ class Job:
     out: bytes
     token: str
     second: Optional[str] = None
+    # Whether JPEG-LS lossless files are to be strict: in TREE and as they are made, or those of OUT.
+    strict: bool = False
 
 
 def do_batch(job: Job, items: Sequence[Union[bytes, Line]]) -> list[Line]:
@@ -97,17 +99,21 @@ def compress(job: Job, path: bytes, now: float) -> Line:
     make_folders(job.out, os.path.dirname(path))
     with Source(os.path.join(job.tree, path)) as source:
         _clear(place, source)
-        line = _coded_or_copied(source, place, job.second)
+        line = _coded_or_copied(source, place, job)
+        if job.strict:
+            line["strict"] = True
         if is_settled(source.stat, now):
             line.update(ctime_ns=source.stat.st_ctime_ns, inode=source.stat.st_ino)
         return line
 
 
-def _coded_or_copied(source: Source, place: bytes, other: Optional[str]) -> Line:
+def _coded_or_copied(source: Source, place: bytes, job: Job) -> Line:
     try:
-        return _coded(source, place, other)
+        return _coded(source, place, job)
     except Left as why:
         text = str(why)
+        if job.strict:
+            strictly.check(source)
         try:
             return _put(
                 source,
@@ -119,7 +125,7 @@ def _coded_or_copied(source: Source, place: bytes, other: Optional[str]) -> Line
             raise Damaged(f"{text}; there is another file of its name, which was left as it is") from None
 
 
-def _coded(source: Source, place: bytes, other: Optional[str]) -> Line:
+def _coded(source: Source, place: bytes, job: Job) -> Line:
     """Puts the coded file in its place. Raises Left if the source is to be copied.
 
     A copy that stands there is as good: a run that was interrupted made it, of what its second decoder couldn't read.
@@ -132,7 +138,7 @@ def _coded(source: Source, place: bytes, other: Optional[str]) -> Line:
             source,
             place,
             lambda part: plan.write(part.write, part.write_at),
-            lambda path, written: coded_line(path, plan, other, written),
+            lambda path, written: coded_line(path, plan, job, written),
         )
     except Taken:
         try:
@@ -174,6 +180,8 @@ def _put(
                 pass
     try:
         line = check(place, None)
+    except strictly.NotStrict:
+        raise
     except (Damaged, OSError):
         raise Taken from None
     source.check()
@@ -186,7 +194,7 @@ def _copy(source: Source, part: Part) -> None:
         part.write(chunk)
 
 
-def coded_line(path: bytes, plan: Plan, other: Optional[str], written: Optional[str]) -> Line:
+def coded_line(path: bytes, plan: Plan, job: Job, written: Optional[str]) -> Line:
     """The line of a coded file, of which every byte of its source was made again and compared.
 
     written is the SHA-256 of what was written after the table of its frames, if that is known.
@@ -195,8 +203,10 @@ def coded_line(path: bytes, plan: Plan, other: Optional[str], written: Optional[
     with Source(path) as coded:
         plan.check_coded(coded, written)
         made = compared(raw_chunks(coded, plan.origin, lambda array: values.update(array)), source)
-        if other is not None:
-            _ask_second(other, coded, plan)
+        if job.strict:
+            strictly.check(coded)
+        if job.second is not None:
+            _ask_second(job.second, coded, plan)
         line = {
             "state": "compressed",
             "frames": plan.picture.frames,
@@ -207,8 +217,8 @@ def coded_line(path: bytes, plan: Plan, other: Optional[str], written: Optional[
         }
     if plan.picture.colors == 3:
         line["planar"] = plan.planar
-    if other is not None:
-        line["second"] = other
+    if job.second is not None:
+        line["second"] = job.second
     return line
 
 
@@ -313,6 +323,8 @@ def verify(job: Job, line: Line) -> Line:
         now = time.time()
         are_settled = all(is_settled(file.stat, now) for file in files)
         _compare_sums(made, source, line)
+        if job.strict:
+            strictly.check(made)
         found = {"state": "verified", "bytes_before": line["bytes_before"], "bytes_after": made.size}
         if are_settled and not any(file.has_changed() for file in files):
             found["stamp"] = stamp(line, [file.stat for file in files])

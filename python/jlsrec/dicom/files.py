@@ -25,7 +25,7 @@ from pydicom.encaps import encapsulate
 from .. import JlsrecError, decode, library_version
 from .._files import NewFile
 from . import Refused
-from .film import UNREADABLE, shown, stored
+from .film import UNREADABLE, shown, stored, why_of
 
 JPEG_LS_LOSSLESS = pydicom.uid.UID("1.2.840.10008.1.2.4.80")
 
@@ -153,7 +153,7 @@ def filled(recording: str, names: Sequence[str], extended: bool) -> list[pydicom
         except Refused as why:
             raise Refused(f"{name}: {why}") from None
         except UNREADABLE as error:
-            raise Refused(f"{name}: {error}") from error
+            raise Refused(f"{name}: {why_of(error)}") from error
         done += count
         made.append(dataset)
     if done < len(left):

@@ -38,6 +38,11 @@ UNREADABLE = (
 WHOLE = {"MONOCHROME1", "MONOCHROME2", "PALETTE COLOR", "RGB", "YBR_FULL", "YBR_RCT", "YBR_ICT"}
 
 
+def why_of(error: Exception) -> str:
+    """What is said of a file that pydicom can't read. Its own text advises what can't be done here."""
+    return "it is no DICOM file" if isinstance(error, pydicom.errors.InvalidDicomError) else str(error)
+
+
 def decoded(dataset: pydicom.Dataset) -> np.ndarray:
     """The samples of a file. GDCM, by which pydicom may decode them, says on standard error alone that it couldn't."""
     with tempfile.TemporaryFile() as said:
@@ -130,7 +135,7 @@ def write_film(names: Sequence[str], offset: bool) -> None:
         except Refused as why:
             raise Refused(f"{name}: {why}") from None
         except UNREADABLE as error:
-            raise Refused(f"{name}: {error}") from error
+            raise Refused(f"{name}: {why_of(error)}") from error
         if signed and offset:
             print(f"{name}: {1 << bits - 1} added to its signed values", file=sys.stderr)
         if str(dataset.PhotometricInterpretation).startswith("YBR"):

@@ -9,7 +9,7 @@ from typing import NamedTuple, Optional
 
 from .manifest import GONE, KEPT, Manifest, path_in
 
-_KEPT = struct.Struct("<QQ16s16s")
+_KEPT = struct.Struct("<QQ16s16s16s")
 # Of a line that doesn't say all that a file is told apart by, as one of an earlier version.
 _NOTHING = bytes(16)
 
@@ -19,9 +19,10 @@ class Kept(NamedTuple):
 
     before: int
     after: int
-    # A sum of what its source was told apart by, and one of the line.
+    # A sum of what its source was told apart by, one of the line, and one of what the line says of OUT's file.
     seen: bytes
     row: bytes
+    made: bytes
 
     def is_of(self, source: os.stat_result) -> bool:
         """Whether nothing was done to the source since it was compressed."""
@@ -32,9 +33,9 @@ class Kept(NamedTuple):
 class Known:
     """What the manifest says already: of a file that OUT has what it was, and else the line."""
 
-    def __init__(self, manifest: Manifest, second: Optional[str]) -> None:
+    def __init__(self, manifest: Manifest, second: Optional[str], strict: bool) -> None:
         self._files: dict[bytes, bytes] = {}
-        # The files that were compressed and weren't read by the second decoder that is asked for.
+        # The files that weren't looked at as is asked for: strictly, or, if they were compressed, by a second decoder.
         self.unread: set[bytes] = set()
         self.others: dict[bytes, dict] = {}
         # How many of the files the tree has.
@@ -46,6 +47,7 @@ class Known:
             if line["state"] in KEPT:
                 self._files[path] = _kept(row, line)
                 is_unread = line["state"] == "compressed" and second not in (None, line.get("second"))
+                is_unread = is_unread or strict and line.get("strict") is not True
                 (self.unread.add if is_unread else self.unread.discard)(path)
             elif line["state"] not in ("failed", GONE):
                 self.others[path] = line
@@ -63,6 +65,11 @@ class Known:
         kept = self._files.get(path)
         return None if kept is None else Kept(*_KEPT.unpack(kept))
 
+    def is_made(self, path: bytes, sha256: str) -> bool:
+        """Whether OUT's file has the sum of its line, if it has a line."""
+        kept = self.get(path)
+        return kept is None or kept.made == _sum(sha256.encode())
+
     def has(self, path: bytes, row: bytes) -> bool:
         """Whether this is the line of a file already."""
         kept = self.get(path)
@@ -72,7 +79,7 @@ class Known:
 def _kept(row: bytes, line: dict) -> bytes:
     seen = [line["bytes_before"], line["mtime_ns"], line.get("ctime_ns"), line.get("inode")]
     told = _NOTHING if None in seen else _sum(repr(seen).encode())
-    return _KEPT.pack(line["bytes_before"], line["bytes_after"], told, _sum(row))
+    return _KEPT.pack(line["bytes_before"], line["bytes_after"], told, _sum(row), _sum(line["sha256"].encode()))
 
 
 def _sum(data: bytes) -> bytes:

@@ -23,7 +23,7 @@ from typing import Any, Callable, Optional, Union
 
 from .._files import sync_folder
 from . import Refused, second
-from .each import Job, Line, failed
+from .each import DAMAGED, Job, Line, failed
 from .known import Kept, Known
 from .manifest import GONE, KEPT, NAME, Manifest, named, path_in, row_of
 from .places import PART, make_folders, shown, standing
@@ -52,6 +52,7 @@ class Words:
     second: Optional[str]
     report: Optional[str]
     reread: bool = False
+    strict: bool = False
     # What is to be restored, by its names below OUT; all if none are named.
     parts: Sequence[bytes] = ()
 
@@ -217,15 +218,14 @@ class Run:
         def counted(lines: list[Line]) -> None:
             if any([line.pop("is_full", False) for line in lines]):
                 self.stop("there is no more space")
-            # What an earlier run put there wasn't made by this one.
-            stood = [line.pop("stood", False) for line in lines]
             try:
                 done(lines)
             except OSError as error:
                 self.stop(f"{error.strerror or error}: no line can be added to the manifest")
                 self.progress.unnoted += sum(line["state"] in KEPT for line in lines)
-            for line, has_stood in zip(lines, stood):
-                self.count({**line, "state": "compared"} if has_stood else line)
+            for line in lines:
+                # What an earlier run put there wasn't made by this one.
+                self.count({**line, "state": "compared"} if line.get("stood") else line)
 
         return counted
 
@@ -280,8 +280,8 @@ def compress(words: Words) -> int:
     with contextlib.closing(Manifest(words.out, True)) as manifest:
         going = Run(words)
         _remove_parts(words.out)
-        known = Known(manifest, words.second)
-        job = Job("compress", words.tree, words.out, str(manifest.token), words.second)
+        known = Known(manifest, words.second, words.strict)
+        job = Job("compress", words.tree, words.out, str(manifest.token), words.second, words.strict)
         listing = Listing(words.tree, words.out, going.progress)
         listing.start()
         going.work(job, _to_compress(listing, known, going, manifest), lambda lines: _note(lines, known, manifest))
@@ -298,11 +298,16 @@ def compress(words: Words) -> int:
 
 
 def _note(lines: list[Line], known: Known, manifest: Manifest) -> None:
-    """Adds the lines that the manifest doesn't have already."""
+    """Adds the lines that the manifest doesn't have already. One whose file isn't OUT's any more becomes that of a failure."""
     for line in lines:
-        if line.pop("is_taken", False) and path_in(line) in known:
+        path = path_in(line)
+        if line.pop("is_taken", False) and path in known:
             line["why"] = "it isn't what was compressed, or OUT's file isn't any more; both were left as they are"
-    manifest.add([line for line in lines if path_in(line) not in known or not known.has(path_in(line), row_of(line))])
+        if line.get("stood") and not known.is_made(path, line["sha256"]):
+            line.clear()
+            line.update(failed(path, f"{DAMAGED}: it hasn't the sum that the manifest says, and was left as it is"))
+    rows = [{key: value for key, value in line.items() if key != "stood"} for line in lines]
+    manifest.add([row for row in rows if not known.has(path_in(row), row_of(row))])
 
 
 def _to_compress(
@@ -542,8 +547,8 @@ def verify(words: Words) -> int:
     with contextlib.closing(Manifest(words.out, False)) as manifest:
         going = Run(words)
         last = manifest.last()
-        job = Job("verify", words.tree, words.out, str(manifest.token))
-        with Verified(words.out, words.tree, str(manifest.token)) as verified:
+        job = Job("verify", words.tree, words.out, str(manifest.token), strict=words.strict)
+        with Verified(words.out, words.tree, str(manifest.token), words.strict) as verified:
             verified.begin(verified.name in last)
             going.work(job, _to_verify(manifest, last, going, verified), verified.add)
             if not going.is_stopped:

@@ -50,11 +50,13 @@ def _sum(of: Any) -> str:
 class Verified:
     """The notes of a verification of one OUT, and of one TREE if that is named."""
 
-    def __init__(self, out: bytes, tree: Optional[bytes], token: str) -> None:
+    def __init__(self, out: bytes, tree: Optional[bytes], token: str, strict: bool) -> None:
         self.name = b".jlsrec-verified-%s.jsonl" % _sum(token)[:16].encode()
         self._path = os.path.join(out, self.name)
         self._folders = [out] if tree is None else [out, tree]
         self._token = token
+        # What is found right by another verification isn't by a strict one.
+        self._kind = ["strict"] if strict else []
         self._stamps: dict[bytes, str] = {}
         self._number = -1
         self._is_noting = False
@@ -109,8 +111,9 @@ class Verified:
         fcntl.flock(self._number, fcntl.LOCK_EX | fcntl.LOCK_NB)
 
     def _of(self) -> str:
-        """What is another for another OUT or TREE."""
-        return _sum([self._token, [[os.path.realpath(each).hex(), os.stat(each).st_ino] for each in self._folders]])
+        """What is another for another OUT or TREE, or for a strict verification."""
+        folders = [[os.path.realpath(each).hex(), os.stat(each).st_ino] for each in self._folders]
+        return _sum([self._token, folders, *self._kind])
 
     def _read(self) -> bool:
         """Reads the notes. Answers whether they are of this OUT and this TREE."""

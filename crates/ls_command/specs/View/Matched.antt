@@ -94,12 +94,12 @@ module _ (words : ArgMatches) where
       (name ≡ codes "play") × HasText (codes "FILE") (Some file.now) × HasText (codes "index") (text_in index) × IsGiven (codes "salvage") true
       × HasText (codes "frames") None
   Asks name (request.Index file sums) = (name ≡ codes "index") × HasText (codes "FILE") (Some file.now) × IsGiven (codes "no-sums") (not sums)
-  Asks name (request.Check file index workers) =
+  Asks name (request.Check file index workers strict) =
       (name ≡ codes "check") × HasText (codes "FILE") (Some file.now) × HasText (codes "index") (text_in index) × AsksWorkers workers
-      × IfNone index (workers ≤ 1)
-  Asks name (request.Verify film recording workers) =
+      × IsGiven (codes "strict") strict × IfNone index (workers ≤ 1)
+  Asks name (request.Verify film recording workers strict) =
       (name ≡ codes "verify") × HasText (codes "FILM") (Some film.now) × HasText (codes "FILE") (Some recording.now)
-      × ReadsNumber (2 ^ 8) (codes "workers") (Some workers)
+      × ReadsNumber (2 ^ 8) (codes "workers") (Some workers) × IsGiven (codes "strict") strict
   Asks name (request.Record asked) = (name ≡ codes "record") × AsksRecording asked
   Asks name (request.Replay sources capacity file) =
       (name ≡ codes "replay") × HasText (codes "FILE") (Some file.now) × ReadsNumber (2 ^ 8) (codes "sources") (Some sources)

@@ -17,6 +17,7 @@ use Rattle.ls_archive.specs.declared.places.Wanted.{Wanted}
 use Rattle.ls_archive.specs.View.Checks.{IsChecked}
 use Rattle.ls_archive.specs.View.Indexing.{Completes as Indexes}
 use Rattle.ls_archive.specs.View.Places.{IsSaidBy, AreStanding}
+use Rattle.ls_archive.specs.View.Strict.{IsStrict}
 use Rattle.ls_archive.specs.View.Verifying.{AreSame}
 
 -- The codestreams before a part of a recording were passed over, and the images of the part's frames were written and nothing else.
@@ -92,6 +93,14 @@ module _ {O : Type 0} (holds : O → List ℕ → Option (List ℕ) → Type 0) 
     pub file : holds opener recording read
     pub run : IsSearched read left salvaged
     pub without_gaps : salvaged.gaps ≡ 0
+
+  -- What the file at this path holds is a recording, as far as it is known, and each of its codestreams is strict.
+  pub record HasStrictCodestreams (recording : List ℕ) : Type 0 where
+    pub read : Option (List ℕ)
+    pub left : Option (List ℕ)
+    pub count : ℕ
+    pub file : holds opener recording read
+    pub run : IsStrict read left count
 
   -- What the files at these two paths hold is a recording and an index of it, as far as it is known: a check found no damage and nothing more.
   pub record PassesCheck (recording index : List ℕ) : Type 0 where

@@ -1,6 +1,6 @@
 //! The reading half of a lane: it reads the frames of a film, books each for the writing half, and puts it into the
 //! queue.
-ghost use Rattle.std.specs.Prelude.{◌≡◌, ◌<◌, ◌≤◌, ◌++◌, ◌∷◌, ◌⊎◌, [], ℕ, length, Ok, IfOk, IfErr, OnOk, IfSome, IfNone, MatchResult};
+ghost use Rattle.std.specs.Prelude.{◌≡◌, ◌<◌, ◌≤◌, ◌++◌, ◌∷◌, ◌⊎◌, [], ℕ, length, false, Ok, Err, IfOk, IfErr, OnOk, IfSome, IfNone, MatchResult};
 ghost use Rattle.crossbeam_channel.specs.Ends.{receives_on};
 ghost use Rattle.ls_frame.specs.Netpbm.{IsImageOf};
 ghost use Rattle.ls_frame.specs.Picture.{IsFrame};
@@ -11,17 +11,19 @@ ghost use Rattle.ls_frame.specs.View.Known.{Gave, WasAtEnd};
 ghost use Rattle.ls_film.specs.Film.{most_frames};
 ghost use Rattle.ls_queue.specs.View.Running.{IsSourceSeat, items_put};
 ghost use Rattle.ls_recorder.specs.View.Lanes.{StopsReading, failed_reader};
-ghost use Rattle.ls_recorder.specs.View.Halves.{MayRead, IsReadingEnd, HasReadAll, HasReadSome};
+ghost use Rattle.ls_recorder.specs.View.Halves.{MayRead, IsReadingEnd, IsWritingEnd, HasReadAll, HasReadSome};
 
 use crate::gate::{Gate, Notice};
 use crate::lane::places::Places;
-use crate::lane::{LaneFault, Setting};
+use crate::lane::writing::WritingEnd;
+use crate::lane::{LaneFault, Setting, WritingOf};
 use ls_film::MOST_FRAMES;
-use ls_frame::{Feed, Frame, NetpbmFault, Tuning, next_frame};
+use ls_frame::{Feed, Frame, NetpbmFault, Outlet, Tuning, next_frame};
 use ls_pieces::Order;
 use ls_queue::{Closer, Ended, Finished, SourceSeat};
 use std::alloc::Global;
 use std::sync::{Arc, Wait};
+use std::thread::{PromisedHandle, Threads};
 
 /// The input of the reading half: its seats at the queue and at the bookings, the closer of the bookings, the free
 /// places, an empty vector with capacity for one end, and the reader.
@@ -46,15 +48,42 @@ pub struct ReadingEnd<F> {
     pub result: Result<u64, LaneFault>,
 }
 
-/// Reads the film, if the writing half was started, and finishes the bookings. If it wasn't, reads nothing, and the
-/// result is `NotStarted`.
-pub fn read_booked<F: Feed, R: Wait, G: Gate>(
+/// Reads the film while the writing half runs in its thread, and joins that.
+pub fn read_beside<F: Feed, W: Outlet + Drop, R: Threads + Wait, G: Gate>(
     setting: &Setting<'_, R, G>,
     reading: Reading<F>,
-    started: bool,
+    writing: PromisedHandle<WritingEnd<W>, WritingOf<W>>,
+) -> (ReadingEnd<F>, WritingEnd<W>)
+    requires { MayRead setting.now.queue.now setting.now.bookings.now reading }
+    ensures read { IsReadingEnd F.remaining F.failed_reads setting.now.queue.now setting.now.bookings.now setting.now.tuning reading result.0 }
+    ensures wrote { IsWritingEnd W.contents W.failed_writes writing.promise.bookings.value writing.promise.writing.value result.1 }
+{
+    let read = read_booked(setting, reading, true);
+    (read, writing.join(setting.rt))
+}
+
+/// Reads nothing, since there is no thread for the writing half: the result is `NotStarted`.
+pub fn read_nothing<F: Feed, R: Wait, G: Gate>(
+    setting: &Setting<'_, R, G>,
+    reading: Reading<F>,
 ) -> ReadingEnd<F>
     requires { MayRead setting.now.queue.now setting.now.bookings.now reading }
-    ensures { IsReadingEnd F.remaining F.failed_reads setting.now.queue.now setting.now.bookings.now setting.now.tuning reading result }
+    ensures end { IsReadingEnd F.remaining F.failed_reads setting.now.queue.now setting.now.bookings.now setting.now.tuning reading result }
+    ensures not_started { result.result ≡ Err LaneFault.NotStarted }
+{
+    read_booked(setting, reading, false)
+}
+
+/// Reads the film, if the writing half was started, and finishes the bookings. If it wasn't, reads nothing, and the
+/// result is `NotStarted`.
+fn read_booked<F: Feed, R: Wait, G: Gate>(
+    setting: &Setting<'_, R, G>,
+    reading: Reading<F>,
+    is_started: bool,
+) -> ReadingEnd<F>
+    requires { MayRead setting.now.queue.now setting.now.bookings.now reading }
+    ensures end { IsReadingEnd F.remaining F.failed_reads setting.now.queue.now setting.now.bookings.now setting.now.tuning reading result }
+    ensures not_started { is_started ≡ false → result.result ≡ Err LaneFault.NotStarted }
 {
     let Reading {
         mut seat,
@@ -64,7 +93,7 @@ pub fn read_booked<F: Feed, R: Wait, G: Gate>(
         mut ended,
         mut reader,
     } = reading;
-    let result = if started {
+    let result = if is_started {
         read_film(setting, &mut seat, &mut booked, &mut places, &mut reader)
     } else {
         Err(LaneFault::NotStarted)

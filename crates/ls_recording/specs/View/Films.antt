@@ -23,7 +23,7 @@ use Rattle.ls_recorder.specs.declared.lane.LaneFault.TheVariants.{Input, NotStar
 use Rattle.ls_recorder.specs.declared.recording.Track.{Track}
 use Rattle.ls_recorder.specs.View.Lanes.{Records, StopsLane, AreTuned, tuned_file}
 
--- No film was recorded, and all are given back: for a reason that the numbers asked for give, or for want of memory or of a thread.
+-- No film was recorded, and all are given back: for a reason that the numbers asked for give, or for lack of memory or of a thread.
 abbrev pub IsRefused : {X : Type 0} → RecordRequest → List X → RecordFault → List X → Type 0
 IsRefused asked films fault back =
     let own : Option RecordFault = record_fault (length films) asked.workers asked.capacity asked.window in

@@ -1,5 +1,6 @@
 //! The report as JSON (RFC 8259), for programs.
-use crate::watching::seen::{Doing, Seen};
+use super::ended::{Ended, UNSYNCED};
+use crate::watching::seen::Seen;
 use std::alloc::{AllocError, Global};
 
 /// Begins a report.
@@ -12,7 +13,7 @@ pub fn add_film(
     alloc: Global,
     report: &mut String,
     (file, recording): (&str, &str),
-    is_stopped: bool,
+    ended: Ended,
     seen: &Seen,
 ) -> Result<(), AllocError> {
     report.push_str(if report.ends_with('[') { "\n" } else { ",\n" })?;
@@ -20,7 +21,7 @@ pub fn add_film(
     add_text(alloc, report, file)?;
     report.push_str(", \"recording\": ")?;
     add_text(alloc, report, recording)?;
-    add_end(alloc, report, is_stopped, seen)?;
+    add_end(alloc, report, ended)?;
     add_numbers(alloc, report, seen)?;
     report.push_str("}")
 }
@@ -41,21 +42,22 @@ pub fn end(
 }
 
 /// Adds how a film ended: whole, by a stop that the program was asked for, or by a fault.
-fn add_end(
-    alloc: Global,
-    report: &mut String,
-    is_stopped: bool,
-    seen: &Seen,
-) -> Result<(), AllocError> {
-    match seen.doing {
-        _ if is_stopped => report.push_str(", \"ended\": \"stopped\", \"fault\": null"),
-        Doing::Ended(Err(fault)) => {
+fn add_end(alloc: Global, report: &mut String, ended: Ended) -> Result<(), AllocError> {
+    match ended {
+        Ended::Whole => report.push_str(", \"ended\": \"whole\", \"fault\": null"),
+        Ended::Stopped => report.push_str(", \"ended\": \"stopped\", \"fault\": null"),
+        Ended::Failed(fault) => {
             let fault = format!(in alloc; "{fault}")?;
-            report.push_str(", \"ended\": \"failed\", \"fault\": ")?;
-            add_text(alloc, report, &fault)
+            add_fault(alloc, report, &fault)
         }
-        _ => report.push_str(", \"ended\": \"whole\", \"fault\": null"),
+        Ended::Unsynced => add_fault(alloc, report, UNSYNCED),
     }
+}
+
+/// Adds that a film ended by a fault.
+fn add_fault(alloc: Global, report: &mut String, fault: &str) -> Result<(), AllocError> {
+    report.push_str(", \"ended\": \"failed\", \"fault\": ")?;
+    add_text(alloc, report, fault)
 }
 
 /// Adds the numbers of a film.

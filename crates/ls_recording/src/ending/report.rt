@@ -1,4 +1,5 @@
 //! The report of a recording: how each film went, and how busy the workers were, as a table or as JSON.
+use super::ended::Ended;
 use super::{json, table};
 use crate::watching::Watch;
 use ls_console::{Console, DONE, FAILED, MadeFile, Shown};
@@ -66,7 +67,7 @@ pub fn report_of<R, O>(
 ) -> Result<String, AllocError>
 where
     R: Clock,
-    O: Makes,
+    O: Makes + Copy + Drop,
 {
     if path.ends_with(JSON) {
         json_of(alloc, watch, films, workers)
@@ -84,13 +85,13 @@ fn json_of<R, O>(
 ) -> Result<String, AllocError>
 where
     R: Clock,
-    O: Makes,
+    O: Makes + Copy + Drop,
 {
     let mut report = json::begin(alloc)?;
     for (number, film) in films.iter().enumerate() {
         if let Some(seen) = watch.seen(number) {
             let names = (film.names.file, film.names.recording.as_str());
-            json::add_film(alloc, &mut report, names, film.is_stopped, &seen)?;
+            json::add_film(alloc, &mut report, names, Ended::of(film, &seen), &seen)?;
         }
     }
     json::end(alloc, &mut report, watch.coding(), watch.lasted(), workers)?;
@@ -106,12 +107,13 @@ fn table_of<R, O>(
 ) -> Result<String, AllocError>
 where
     R: Clock,
-    O: Makes,
+    O: Makes + Copy + Drop,
 {
     let mut lines = table::head(alloc)?;
     for (number, film) in films.iter().enumerate() {
         if let Some(seen) = watch.seen(number) {
-            table::add_film(alloc, &mut lines, film.names.file, film.is_stopped, &seen)?;
+            let ended = Ended::of(film, &seen);
+            table::add_film(alloc, &mut lines, film.names.file, ended, &seen)?;
         }
     }
     table::add_workers(alloc, &mut lines, watch.coding(), watch.lasted(), workers)?;

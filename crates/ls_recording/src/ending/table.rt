@@ -1,5 +1,6 @@
 //! The lines of a report.
-use crate::watching::seen::{Doing, Seen};
+use super::ended::{Ended, UNSYNCED};
+use crate::watching::seen::Seen;
 use ls_console::Shown;
 use std::alloc::{AllocError, Global};
 
@@ -17,11 +18,11 @@ pub fn add_film(
     alloc: Global,
     table: &mut String,
     file: &str,
-    is_stopped: bool,
+    ended: Ended,
     seen: &Seen,
 ) -> Result<(), AllocError> {
     add_numbers(alloc, table, seen)?;
-    add_name(alloc, table, file, is_stopped, seen)
+    add_name(alloc, table, file, ended)
 }
 
 /// Adds the line of the workers, which coded for `coding` nanoseconds together, each for at most `lasted`.
@@ -73,19 +74,14 @@ fn add_waits(alloc: Global, table: &mut String, seen: &Seen) -> Result<(), Alloc
     table.push_str(&waits)
 }
 
-/// Adds the name of a film, and whether the program was asked to stop it, or why else its recording stopped, if it did.
-fn add_name(
-    alloc: Global,
-    table: &mut String,
-    file: &str,
-    is_stopped: bool,
-    seen: &Seen,
-) -> Result<(), AllocError> {
+/// Adds the name of a film, and how it ended, unless that was whole.
+fn add_name(alloc: Global, table: &mut String, file: &str, ended: Ended) -> Result<(), AllocError> {
     let file = Shown(file);
-    let name = match seen.doing {
-        _ if is_stopped => format!(in alloc; " {file}: stopped\n"),
-        Doing::Ended(Err(fault)) => format!(in alloc; " {file}: {fault}\n"),
-        _ => format!(in alloc; " {file}\n"),
+    let name = match ended {
+        Ended::Whole => format!(in alloc; " {file}\n"),
+        Ended::Stopped => format!(in alloc; " {file}: stopped\n"),
+        Ended::Failed(fault) => format!(in alloc; " {file}: {fault}\n"),
+        Ended::Unsynced => format!(in alloc; " {file}: {UNSYNCED}\n"),
     }?;
     table.push_str(&name)
 }

@@ -7,8 +7,8 @@ use std::sync::OnceLock;
 use std::sync::atomic::{AtomicBool, AtomicU64, Ordering};
 
 /// The counts and times of a film. Each is updated by one thread at a time: `bytes_out`, `written` and `delay` by the
-/// half of its lane that writes, the others by the half that reads. Either half sets `end`, and the thread that
-/// watches sets `told`.
+/// half of its lane that writes, the others by the half that reads. Either half sets `end`; the thread that keeps the
+/// films' files sets `is_settled` and `is_unsynced`, and the one that says progress `told` and `counted`.
 #[derive(Drop)]
 pub struct FilmWatch {
     /// The number of frames after which the film is read no further, if there is one.
@@ -31,8 +31,14 @@ pub struct FilmWatch {
     end: OnceLock<Result<u64, LaneFault>>,
     /// Whether its lane has ended.
     is_over: AtomicBool,
+    /// Whether its files are settled and on the disk.
+    is_settled: AtomicBool,
+    /// Whether it was found, since `is_unsynced_since` last looked, that it can't be brought onto the disk.
+    is_unsynced: AtomicBool,
     /// Whether `news` has given the fault that stopped it.
     told: AtomicBool,
+    /// Whether `count_to_say` has given its number of frames.
+    counted: AtomicBool,
 }
 
 impl FilmWatch {
@@ -58,7 +64,10 @@ impl FilmWatch {
             read_at,
             end: OnceLock::new(),
             is_over: AtomicBool::new(false),
+            is_settled: AtomicBool::new(false),
+            is_unsynced: AtomicBool::new(false),
             told: AtomicBool::new(false),
+            counted: AtomicBool::new(false),
         })
     }
 
@@ -66,8 +75,12 @@ impl FilmWatch {
     pub fn take(&self, notice: Notice, now: u64) {
         match notice {
             Notice::Began => self.since.store(now, Ordering::SeqCst),
-            Notice::Reading(_) => {
-                add(&self.window_wait, self.turn(now));
+            Notice::Reading(number) => {
+                let waited = self.turn(now);
+                // The first frame waits only for the lane to start.
+                if number > 0 {
+                    add(&self.window_wait, waited);
+                }
                 add(&self.asked, 1);
             }
             Notice::Read { number, bytes } => self.take_read(number, bytes, now),
@@ -194,6 +207,37 @@ impl FilmWatch {
     /// Whether `news` has given the fault that stopped it.
     pub fn was_told(&self) -> bool {
         self.told.load(Ordering::SeqCst)
+    }
+
+    /// Notes that its files are settled and on the disk; whether that wasn't noted before.
+    pub fn note_settled(&self) -> bool {
+        !self.is_settled.swap(true, Ordering::SeqCst)
+    }
+
+    /// Notes that what is recorded can't be brought onto the disk.
+    pub fn note_unsynced(&self) {
+        self.is_unsynced.store(true, Ordering::SeqCst);
+    }
+
+    /// Whether that was noted since this was last asked.
+    pub fn is_unsynced_since(&self) -> bool {
+        self.is_unsynced.swap(false, Ordering::SeqCst)
+    }
+
+    /// The number of its frames, if it was recorded completely and is settled, and no call has given that before.
+    pub fn count_to_say(&self) -> Option<u64> {
+        if !self.is_settled.load(Ordering::SeqCst) {
+            return None;
+        }
+        match self.ended() {
+            Some(Ok(frames)) if !self.counted.swap(true, Ordering::SeqCst) => Some(frames),
+            _ => None,
+        }
+    }
+
+    /// Whether `count_to_say` has given the number of its frames.
+    pub fn is_counted(&self) -> bool {
+        self.counted.load(Ordering::SeqCst)
     }
 }
 

@@ -1,15 +1,15 @@
-//! The thread that watches a recording: it settles each film's files as soon as the film ends, and says progress on
-//! standard error: on a terminal in a progress line, elsewhere as lines.
+//! The thread that keeps the time of a recording and says progress: it ends the recording once that is due, wakes lanes
+//! whose pipes no one has opened, and writes to standard error: on a terminal a progress line, elsewhere lines. It waits
+//! for no disk.
 use super::Watch;
+use super::keeping::may_be_stop;
 use super::line::line_of;
 use super::pace::Pace;
-use super::schedule::Schedule;
+use super::schedule::Deadline;
 use crate::ending::say_count;
 use ls_console::{Console, Program, Shown};
-use ls_files::{Makes, Opens};
-use ls_frame::{Counted, NetpbmFault, Outlet};
-use ls_opening::Film;
-use ls_recorder::LaneFault;
+use ls_files::Makes;
+use ls_frame::{Counted, Outlet};
 use std::alloc::{AllocError, Global};
 use std::io::Write;
 use std::sync::Wait;
@@ -18,41 +18,38 @@ use std::time::Clock;
 /// The nanoseconds after which progress is said again: a little less than the wait, which may end a little early.
 const DUE: u64 = 450_000_000;
 
-/// Watches films while they are recorded, and says their progress, if that is wanted.
+/// Keeps the time while films are recorded, and says their progress, if that is wanted.
 #[derive(Drop)]
-pub struct Teller<'s, 'a, R, O: Makes, W, E> {
+pub struct Teller<'s, R, O, W, E> {
     pub program: Program<'s, R, O, W, E>,
     pub watch: &'s Watch<'s, R>,
-    pub schedule: Schedule,
+    pub deadline: Deadline,
     /// The films' names.
     pub files: &'s [&'s str],
-    pub films: &'s mut [Film<'a, O>],
     /// Whether progress is said.
     pub is_telling: bool,
 }
 
-impl<'s, 'a, R, O, W, E> Teller<'s, 'a, R, O, W, E>
+impl<'s, R, O, W, E> Teller<'s, R, O, W, E>
 where
     R: AllocGlobal + Clock + Wait,
     O: Makes + Copy + Drop,
     W: Write,
     E: Outlet,
 {
-    /// Until the recording ends, settles the files of each film that ends. If progress is wanted, says immediately
-    /// which film has ended or stopped, and twice a second how far each is.
+    /// Until the recording ends, says immediately of which film what is recorded can't be brought onto the disk; and,
+    /// if progress is wanted, which film has ended or stopped, and twice a second how far each is.
     ///
-    /// Brings what is written onto the disk as often as it is asked for, and asks the program to stop once the time for
-    /// that has come. Once it was asked to stop, wakes the lanes whose pipes no one has opened, every 10 ms, and says
-    /// that, if progress is wanted.
+    /// Asks the program to stop once the time for that has come. Once it was asked to stop, wakes the lanes whose pipes
+    /// no one has opened, every 10 ms, and says that, if progress is wanted.
     ///
     /// If memory runs out at the beginning, does nothing; later, what it ran out for isn't said that time.
     pub fn tell(self) {
         let Teller {
             program,
             watch,
-            mut schedule,
+            mut deadline,
             files,
-            films,
             is_telling,
         } = self;
         let Program {
@@ -68,28 +65,25 @@ where
         let mut is_stopping = false;
         let mut is_stop_said = false;
         for _ in rt.forever() {
-            watch.wait(schedule.wait(watch.age(), is_telling, is_stopping));
+            watch.wait(deadline.wait(watch.age(), is_telling, is_stopping));
             if watch.is_over() {
                 break;
             }
-            if schedule.is_end_due(watch.age()) {
+            if deadline.is_due(watch.age()) {
                 opener.stop();
             }
             is_stopping = opener.is_stopping();
             if is_stopping {
                 wake_awaited(opener, watch, files);
             }
-            settle_ended(opener, watch, films);
-            if schedule.is_sync_due(watch.age()) {
-                sync_so_far(watch, films, console);
-            }
+            tell_unsynced(watch, files, console);
             if is_telling {
                 if is_stopping && !is_stop_said {
                     tell_stop(watch, files.len(), console);
                     is_stop_said = true;
                 }
                 tell_news(opener, watch, files, console);
-                tell_counts(alloc, watch, films, output, console);
+                tell_counts(alloc, watch, files, output, console);
                 progress.tell(watch, console);
             }
         }
@@ -203,81 +197,37 @@ fn tell_stop<R: Clock, E: Outlet>(watch: &Watch<'_, R>, films: usize, console: &
     ));
 }
 
-/// Whether a fault may be the failed read by which a lane stops because the program was asked to. At the end its source
-/// says whether it is, and what there is to say is said then.
-fn may_be_stop<O: Opens>(opener: &O, fault: LaneFault) -> bool {
-    matches!(fault, LaneFault::Input(_, NetpbmFault::Io)) && opener.is_stopping()
-}
-
-/// Settles the files of each film that has ended since, and removes earlier files that the recordings of the others
-/// have replaced.
-fn settle_ended<R, O>(opener: O, watch: &Watch<'_, R>, films: &mut [Film<'_, O>])
-where
-    R: Clock,
-    O: Makes + Copy + Drop,
-{
-    for (number, film) in films.iter_mut().enumerate() {
-        let written = watch.written(number);
-        match watch.ended(number) {
-            Some(outcome) => settle(&opener, film, outcome, written),
-            None => film.replace(written),
-        }
-    }
-}
-
-/// Settles the files of a film that has ended with this result and this number of codestreams. Leaves a film without a
-/// frame for the end, if it may have been stopped.
-fn settle<O: Makes + Copy + Drop>(
-    opener: &O,
-    film: &mut Film<'_, O>,
-    outcome: Result<u64, LaneFault>,
-    written: u64,
+/// Says of which films what is recorded can't be brought onto the disk, if that was found since.
+fn tell_unsynced<R: Clock, E: Outlet>(
+    watch: &Watch<'_, R>,
+    files: &[&str],
+    console: &mut Console<E>,
 ) {
-    match outcome {
-        Err(fault) if written == 0 && may_be_stop(opener, fault) => {}
-        _ => {
-            let _synced = film.settle(outcome.is_err(), written);
-        }
-    }
-}
-
-/// Brings what is written of each film that goes on onto the disk, and says at once if that fails.
-fn sync_so_far<R, O, E>(watch: &Watch<'_, R>, films: &mut [Film<'_, O>], console: &mut Console<E>)
-where
-    R: Clock,
-    O: Makes + Copy + Drop,
-    E: Outlet,
-{
-    for (number, film) in films.iter_mut().enumerate() {
-        if watch.ended(number).is_none() && film.sync_so_far(watch.written(number)) {
-            let file = Shown(film.names.file);
+    for (film, file) in files.iter().enumerate() {
+        if watch.is_unsynced_since(film) {
+            let file = Shown(file);
             console.say(format_args!("{file}: what is recorded can't be brought onto the disk"));
         }
     }
 }
 
 /// Writes the number of frames of each film that has ended since and is on the disk.
-fn tell_counts<R, O, W, E>(
+fn tell_counts<R, W, E>(
     alloc: Global,
     watch: &Watch<'_, R>,
-    films: &mut [Film<'_, O>],
+    files: &[&str],
     output: &mut Counted<W>,
     console: &mut Console<E>,
 )
 where
     R: Clock,
-    O: Makes + Copy + Drop,
     W: Write,
     E: Outlet,
 {
-    for (number, film) in films.iter_mut().enumerate() {
-        if film.is_told || !film.is_on_disk() {
-            continue;
-        }
-        if let Some(Ok(frames)) = watch.ended(number) {
-            film.is_told = true;
+    for (film, file) in files.iter().enumerate() {
+        if let Some(frames) = watch.count_to_say(film) {
             console.clear();
-            let _said = say_count(alloc, film, frames, output, console);
+            let _said = say_count(alloc, *file, frames, false, output, console);
         }
     }
 }

@@ -2,50 +2,68 @@
 use ls_command::RecordRequest;
 use std::time::Duration;
 
-/// The longest wait of the thread that watches: once the program was asked to stop, if progress is said, and otherwise.
+/// The longest waits of a thread for which nothing is due: of the one that says progress, once the program was asked to
+/// stop, and if progress is wanted; and of any, otherwise.
 const STOPPING: u64 = 10_000_000;
 
 const TELLING: u64 = 500_000_000;
 
 const LONGEST: u64 = 3_600_000_000_000;
 
-/// What is due when, in nanoseconds since the recording began.
+/// When what is written is brought onto the disk, in nanoseconds since the recording began.
 #[derive(Drop)]
-pub struct Schedule {
+pub struct Syncs {
     /// The time between two syncs, unless there is one at the end alone.
     interval: Option<u64>,
-    next_sync: u64,
-    /// When the recording is to end, if that is asked for and hasn't been done.
-    end: Option<u64>,
+    next: u64,
 }
 
-impl Schedule {
-    /// What is due when, as it is asked for.
-    pub fn new(asked: &RecordRequest<'_>) -> Schedule {
+impl Syncs {
+    /// The syncs that are asked for.
+    pub fn new(asked: &RecordRequest<'_>) -> Syncs {
         let interval = match asked.sync {
             0 => None,
             seconds => Some(nanoseconds(seconds)),
         };
-        Schedule {
+        Syncs {
             interval,
-            next_sync: interval.unwrap_or(u64::MAX),
-            end: asked.seconds.map(nanoseconds),
+            next: interval.unwrap_or(u64::MAX),
         }
     }
 
     /// Whether a sync is due. If it is, the next one is due an interval later.
-    pub fn is_sync_due(&mut self, now: u64) -> bool {
+    pub fn is_due(&mut self, now: u64) -> bool {
         match self.interval {
-            Some(interval) if now >= self.next_sync => {
-                self.next_sync = now.saturating_add(interval);
+            Some(interval) if now >= self.next => {
+                self.next = now.saturating_add(interval);
                 true
             }
             _ => false,
         }
     }
 
+    /// How long to wait if nothing happens.
+    pub fn wait(&self, now: u64) -> Duration {
+        Duration::from_nanos(self.next.saturating_sub(now).min(LONGEST))
+    }
+}
+
+/// When the recording is to end, in nanoseconds since it began, if that is asked for and hasn't been done.
+#[derive(Drop)]
+pub struct Deadline {
+    end: Option<u64>,
+}
+
+impl Deadline {
+    /// The end that is asked for, if one is.
+    pub fn new(asked: &RecordRequest<'_>) -> Deadline {
+        Deadline {
+            end: asked.seconds.map(nanoseconds),
+        }
+    }
+
     /// Whether the end is due: `true` once.
-    pub fn is_end_due(&mut self, now: u64) -> bool {
+    pub fn is_due(&mut self, now: u64) -> bool {
         match self.end {
             Some(end) if now >= end => {
                 self.end = None;
@@ -64,8 +82,8 @@ impl Schedule {
         } else {
             LONGEST
         };
-        let due = self.end.unwrap_or(u64::MAX).min(self.next_sync);
-        Duration::from_nanos(due.saturating_sub(now).min(longest))
+        let left = self.end.unwrap_or(u64::MAX).saturating_sub(now);
+        Duration::from_nanos(left.min(longest))
     }
 }
 

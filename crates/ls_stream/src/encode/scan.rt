@@ -11,19 +11,20 @@ ghost use Rattle.ls_stream.specs.Components.{component_plane, plane_of};
 ghost use Rattle.ls_stream.specs.View.Coded.{all_from};
 ghost use Rattle.ls_stream.specs.Layout.{scan_bound};
 
+use crate::arranged::ArrangedView;
 use crate::buffers::Lines;
 use crate::encode::coder::Coder;
 use crate::encode::row::code_row;
 use crate::lines::{clear, fill_line};
-use crate::shape::{Shape, shape_of};
+use crate::shape::Shape;
 use ls_bits::{Room, take_room};
 use ls_coding::State;
-use ls_frame::{PictureView, Presets, Samples};
+use ls_frame::{Presets, Samples};
 
 /// Appends the data of a component's scan to a `Room` that has capacity left for it. Stops and returns false at a row
 /// of the component with a sample over maxval.
 pub fn put_scan<R: Room>(
-    picture: &PictureView,
+    picture: &ArrangedView,
     presets: &Presets,
     lines: &mut Lines,
     bytes: &mut R,
@@ -58,7 +59,7 @@ pub fn put_scan<R: Room>(
 /// and `line` are buffers, at least two places longer than a row.
 fn code_plane<R: Room>(
     coder: &mut Coder<R>,
-    picture: &PictureView,
+    picture: &ArrangedView,
     above: &mut Vec<u16>,
     line: &mut Vec<u16>,
     component: usize,
@@ -80,15 +81,15 @@ fn code_plane<R: Room>(
     ensures above { vec_len above.new ≡ vec_len above.old }
     ensures line { vec_len line.new ≡ vec_len line.old }
 {
-    let shape = shape_of(picture);
-    let places = shape.width + 2;
+    let view = picture.component(component);
+    let places = view.shape.width + 2;
     code_rows(
         coder,
         &mut above[..places],
         &mut line[..places],
-        picture.samples(),
-        shape,
-        component,
+        view.samples,
+        view.shape,
+        view.component,
     )
 }
 

@@ -10,11 +10,12 @@ ghost use Rattle.ls_stream.specs.Segments.{segment, component_bytes, header_cont
 ghost use Rattle.ls_stream.specs.Grammar.{greatest_maxval, miscellaneous_bytes};
 ghost use Rattle.ls_stream.specs.Layout.{written_component, written_header, needs_presets, written_presets, presets_length};
 
+use crate::arranged::ArrangedView;
 use crate::marker::Marker;
 use crate::segments::{SAMPLED_ONE_BY_ONE, greatest_maxval};
 use byteorder::{BigEndian, ByteOrder};
 use ls_bits::Room;
-use ls_frame::{PictureView, Presets};
+use ls_frame::Presets;
 
 /// Appends a marker.
 pub fn put_marker<R: Room>(bytes: &mut R, marker: Marker)
@@ -31,7 +32,7 @@ pub fn put_marker<R: Room>(bytes: &mut R, marker: Marker)
 /// Appends the frame header: bits per sample (P), lines (Y), samples per line (X), and the components, numbered from 1
 /// (SOF55; T.87 C.2.2).
 #[tactic(auto, unfolding(crate::specs::Segments::header_contents))]
-pub fn put_frame_header<R: Room>(bytes: &mut R, picture: &PictureView)
+pub fn put_frame_header<R: Room>(bytes: &mut R, picture: &ArrangedView)
     requires room { length (R.items bytes.old) + (10 + 3 * components picture.now.kind) ≤ R.capacity bytes.old }
     ensures bytes { R.items bytes.new
         ≡ R.items bytes.old ++ segment Marker.StartOfFrame (header_contents (written_header picture.now)) }

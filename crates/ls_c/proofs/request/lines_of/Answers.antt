@@ -1,9 +1,9 @@
 use Rattle.std.proofs.Common.{rules, arith}
 use Rattle.std.proofs.lemmas.Grind.{common_steps}
-use Rattle.ls_c.proofs.request.rows_of.Goals as goal
+use Rattle.ls_c.proofs.request.lines_of.Goals as goal
 
-pub returns-then-count-from-clause-exactly : goal.returns-then-count-from-clause-exactly
-returns-then-count-from-clause-exactly c = grind (arith, common_steps)
+pub returns-then-count-height-clause-exactly : goal.returns-then-count-height-clause-exactly
+returns-then-count-height-clause-exactly c = grind (arith, common_steps)
 
 pub returns-clause-exactly : goal.returns-clause-exactly
 returns-clause-exactly c = grind (arith, common_steps)

@@ -2,20 +2,21 @@ use Rattle.std.proofs.Common.{◌≡◌, ◌≤◌, length, take, sym, ◌∙◌
 use Rattle.ls_stream.specs.Grammar.{Spells, most_bytes}
 use Rattle.ls_stream.specs.View.Outlines.{outline_at, DecodingStops, IsFirstFault}
 use Rattle.ls_stream.specs.View.Decoding.{picture}
-use Rattle.ls_frame.specs.Picture.{picture_of}
+use Rattle.ls_frame.specs.Picture.{picture_of, components}
+use Rattle.ls_stream.specs.Components.{arranged}
 use Rattle.ls_stream.specs.View.Openings.{Opened, opened_form}
 use Rattle.ls_stream.proofs.FaultLaws.{stops_are_first_faults}
 use Rattle.ls_stream.proofs.MemoryLemmas.{memory_of_first, decoding_needs_none}
 use Rattle.ls_stream.proofs.FrameReadingLemmas.{bytes_take, front_spells, IsFoundAt, found_at, same_left}
 use Rattle.ls_stream.proofs.OpeningLemmas.{no_front}
-use Rattle.ls_stream.proofs.decode.Opening.decode.Goals as goal
+use Rattle.ls_stream.proofs.decode.Opening.decode_arranged.Goals as goal
 
 pub returns-in-Ok-clause-ok : goal.returns-in-Ok-clause-ok
 returns-in-Ok-clause-ok g c =
     let bytes = c.self.inside.bytes.now in
     let found = c.in-Ok.ensures.ok in
-    subst (λ (o : Opened). (c.in-Ok.used ≤ length o.bytes) × Spells (take c.in-Ok.used o.bytes) (picture_of (opened_form o) (g.S.Sample.numbers c.decode_opened.new.samples))) c.self.view_is
-    (front_spells bytes found.1 found.0 (picture c.self.inside.header c.self.inside.presets.maxval (g.S.Sample.numbers c.decode_opened.new.samples)) c.in-Ok.used c.self.invariant.are
+    subst (λ (o : Opened). (c.in-Ok.used ≤ length o.bytes) × Spells (take c.in-Ok.used o.bytes) (picture_of (opened_form o) (arranged c.args.arrangement (components o.kind) (g.S.Sample.numbers c.decode_opened.new.samples)))) c.self.view_is
+    (front_spells bytes found.1 found.0 (picture c.self.inside.header c.self.inside.presets.maxval (arranged c.args.arrangement (components c.self.inside.header.kind) (g.S.Sample.numbers c.decode_opened.new.samples))) c.in-Ok.used c.self.invariant.are
     (ap outline_at (sym c.first_bytes-first.ensures) ∙ found.2) found.3 found.4 (found.5 ∙ ap length c.first_bytes-first.ensures))
 
 pub returns-in-Ok-clause-complete : goal.returns-in-Ok-clause-complete
@@ -25,7 +26,7 @@ returns-in-Ok-clause-complete g c front rest f e spelled =
     let there : IsFoundAt bytes front f = found_at bytes front rest f (ap (λ (o : Opened). o.bytes) c.self.view_is ∙ e) spelled in
     let here = ap outline_at c.first_bytes-first.ensures ∙ there.outline_is in
     let left : found.1 ≡ there.left = same_left c.first_bytes-first.result.now found.0 there.o found.1 there.left found.2 here in (
-      ap (λ (o : Opened). picture_of (opened_form o) (g.S.Sample.numbers c.decode_opened.new.samples)) (sym c.self.view_is)
+      ap (λ (o : Opened). picture_of (opened_form o) (arranged c.args.arrangement (components o.kind) (g.S.Sample.numbers c.decode_opened.new.samples))) (sym c.self.view_is)
           ∙ c.in-Ok.ensures.only there.o there.left f here there.frame there.says,
       omega (arith, found.5, ap length left, ap length c.first_bytes-first.ensures, there.count),
     )
