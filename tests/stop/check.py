@@ -115,7 +115,8 @@ class Recorder:
 
         how = {"stdin": subprocess.DEVNULL, "stdout": subprocess.PIPE, "stderr": subprocess.PIPE, **how}
         self.process = subprocess.Popen([PROGRAM, "record", *words], preexec_fn=prepare, **how)
-        wait_for(self.has_handlers, 2)
+        # With too few files open it takes no signal.
+        wait_for(self.has_handlers, 20 if most is None else 2)
 
     def stop(self, *stops):
         """Sends signals, and returns the status, both outputs, and the seconds that it took."""
