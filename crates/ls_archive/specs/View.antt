@@ -8,6 +8,7 @@ pub mod Entries
 pub mod Followed
 pub mod Following
 pub mod Indexing
+pub mod Listed
 pub mod Places
 pub mod Strict
 pub mod Verifying

@@ -2,7 +2,7 @@
 //!
 //! A line of the index says at which offset its codestream begins and how many bytes it has. So damage, even to
 //! markers, doesn't keep any other codestream from being checked.
-ghost use Rattle.std.specs.Prelude.{if◌then◌else◌, ◌≡◌, ◌≢◌, ◌⊎◌, ◌+◌, ◌*◌, ◌^◌, ◌<◌, ◌≤◌, ◌++◌, ◌∷◌, ◌↔◌, ℕ, List, [], Option, Some, IsTrue, decimal, flat_map, IsSome, IfOk, IfErr, IfSome, IfNone, OnOk, OnErr, MatchOption, codes, length, true, false};
+ghost use Rattle.std.specs.Prelude.{if◌then◌else◌, ◌≡◌, ◌≢◌, ◌⊎◌, ◌+◌, ◌*◌, ◌^◌, ◌<◌, ◌≤◌, ◌++◌, ◌∷◌, ◌↔◌, ℕ, List, [], Option, Some, IsTrue, decimal, flat_map, IsSome, IfOk, IfErr, IfSome, IfNone, OnOk, OnErr, MatchOption, codes, length, true, false, Err};
 ghost use Rattle.ls_frame.specs.declared.frame.Kind.{Kind};
 ghost use Rattle.ls_frame.specs.Picture.{Picture};
 ghost use Rattle.ls_frame.specs.View.Devices.{count_after, failed_read};
@@ -22,14 +22,17 @@ mod looking;
 
 use crate::entry::Indexed;
 use crate::index::line;
+use crate::strict::Seen;
 use batches::{After, SoFar, take, tell_all};
 use hex::{FromHex, encode_to_slice};
 use itoa::Buffer;
 use looking::{Alone, ByThreads, Looking};
 use ls_film::MOST_FRAMES;
+use ls_film::codestreams::made_of;
+use ls_film::engine::Made;
 use ls_frame::{Feed, FeedFault};
 use ls_stream::laws::outlines_follow_the_grammar;
-use ls_stream::{StreamFault, decode_frame};
+use ls_stream::StreamFault;
 use memchr::memchr;
 use std::alloc::{AllocError, Global};
 use std::str::from_utf8;
@@ -454,7 +457,7 @@ fn after_number(text: &[u8]) -> Option<&[u8]>
 }
 
 /// Takes `most` bytes off a reader, or all that are left. Fails with `Io` if a read fails, or with `NoMemory`.
-fn take_bytes<R: Feed>(alloc: Global, reader: &mut R, most: usize) -> Result<Vec<u8>, CheckFault>
+pub(crate) fn take_bytes<R: Feed>(alloc: Global, reader: &mut R, most: usize) -> Result<Vec<u8>, CheckFault>
     ensures taken { IfOk result (λ bytes. GaveAtMost (R.remaining reader.old) (R.remaining reader.new) most bytes.items) }
     ensures blame { IfErr result (λ fault. fault ≢ CheckFault.IndexIo) }
     ensures stops { IfErr result (StopsReading (R.remaining reader.old) (R.remaining reader.new) most) }
@@ -525,30 +528,50 @@ fn damage_of(
     ensures damage { IfOk result (λ found. IfSome found (IsDamage number offset (record { text = line.now.text.items; size = line.now.size; sum = line.now.sum }) bytes.items)) }
     ensures memory { OnErr result (HasEntry bytes.items) }
 {
+    match looked_at::<Seen>(alloc, number, offset, line, bytes)? {
+        Ok(_) => Ok(None),
+        Err(damage) => Ok(Some(damage)),
+    }
+}
+
+/// What is made of the frame at the offset of a line's codestream, or what is wrong with the bytes there.
+pub(crate) fn looked_at<T: Made>(
+    alloc: Global,
+    number: u64,
+    offset: u64,
+    line: &IndexLine,
+    bytes: Vec<u8>,
+) -> Result<Result<T, Damage>, AllocError>
+    ensures good { IfOk result (λ looked. IfOk looked (λ made. HasLine number offset line.now.text.items bytes.items
+        × ((f : Picture) × Spells bytes.items f × T.made f made))) }
+    ensures damaged { IfOk result (λ looked. OnErr looked (IsGood number offset line.now.text.items bytes.items → ⊥)) }
+    ensures damage { IfOk result (λ looked. IfErr looked (IsDamage number offset (record { text = line.now.text.items; size = line.now.size; sum = line.now.sum }) bytes.items)) }
+    ensures memory { OnErr result (HasEntry bytes.items) }
+{
     outlines_follow_the_grammar();
     let is_short = bytes.len() < line.size as usize;
     let mut bytes = bytes;
     let Some(indexed) = Indexed::take(alloc, &mut bytes) else {
-        return Ok(Some(changed(is_short)));
+        return Ok(Err(changed(is_short)));
     };
     if !is_line_of(alloc, number, offset, &line.text, &indexed)? {
-        return Ok(Some(changed(is_short)));
+        return Ok(Err(changed(is_short)));
     }
-    match decode_frame(alloc, indexed.bytes()) {
-        Ok(_) => Ok(None),
+    match made_of::<T>(alloc, indexed.bytes()) {
+        Ok(made) => Ok(Ok(made)),
         Err(fault) => undecoded(fault),
     }
 }
 
 /// Converts a fault of decoding to `Damage`; fails if it is `NoMemory`.
-fn undecoded(fault: StreamFault) -> Result<Option<Damage>, AllocError>
-    ensures found { IfOk result (λ found. (fault ≢ StreamFault.NoMemory) × (found ≡ Some (Damage.Fault fault))) }
+fn undecoded<T>(fault: StreamFault) -> Result<Result<T, Damage>, AllocError>
+    ensures found { IfOk result (λ found. (fault ≢ StreamFault.NoMemory) × (found ≡ Err (Damage.Fault fault))) }
     ensures memory { OnErr result (fault ≡ StreamFault.NoMemory) }
 {
     if fault == StreamFault::NoMemory {
         return Err(AllocError);
     }
-    Ok(Some(Damage::Fault(fault)))
+    Ok(Err(Damage::Fault(fault)))
 }
 
 /// The damage of bytes that don't match their line: the recording ends before, or they were changed.

@@ -32,7 +32,7 @@
 //! codestream, and what its headers say), `following` (an index that is written with its recording), `coding` (a film
 //! that is coded so), `checking` (a recording and its index: lines are taken in its `batches`, and one thread or several
 //! look at their codestreams, in its `looking`), `places` (codestreams that stand elsewhere than the index says),
-//! `verifying` (a film and its recording), `strict` (whether codestreams have exactly the data that encoding gives),
+//! `listed` (frames that are shown by their lines), `verifying` (a film and its recording), `strict` (whether codestreams have exactly the data that encoding gives),
 //! `laws`.
 #![tactic(auto)]
 
@@ -43,6 +43,7 @@ pub mod faults;
 pub mod following;
 pub mod index;
 pub mod laws;
+pub mod listed;
 pub mod places;
 pub mod strict;
 pub mod verifying;
@@ -52,6 +53,7 @@ pub use coding::{CodedFilm, code_film_with_index};
 pub use faults::{IndexFault, VerifyFault};
 pub use following::{Follower, Indexing};
 pub use index::{index_bytes, write_index};
+pub use listed::{ListedFault, pass_line_end, pass_lines, play_listed};
 pub use places::{Wanted, find_places, read_index};
 pub use strict::{Strict, read_strict};
 pub use verifying::{Difference, Verdict, verify, verify_by, verify_bytes};

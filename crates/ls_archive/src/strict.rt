@@ -70,9 +70,9 @@ fn found_by(stopped: Stopped<Unstrict>) -> Result<Strict, PlayFault>
     Err(PlayFault::of(stopped))
 }
 
-/// A frame whose codestream is strict: nothing is kept of it.
+/// A frame that was read, of which nothing is kept.
 #[derive(Drop)]
-struct Seen;
+pub(crate) struct Seen;
 
 impl Made for Seen {
     ghost made = { λ f seen. ⊤ };

@@ -40,6 +40,6 @@ pub use output::{
     DONE, FAILED, USAGE, finish, finish_lines, misused, no_memory, say_unwritten, write_text,
 };
 pub use program::{Host, Program};
-pub use reader::{Cause, Reader, buffered, cause_of_input, explain, open_film};
+pub use reader::{Cause, Reader, buffered, cause_of_input, explain, open_film, open_from};
 pub use shown::{Escaped, Shown, ShownBytes, is_shown_plain};
 pub use written::{EndedIndex, MadeFile, make_file, say_index_end, say_unmade, say_unsynced};

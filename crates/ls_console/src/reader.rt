@@ -1,6 +1,7 @@
 //! Reads films and recordings from files, and says why one can't be read.
 ghost use Rattle.std.specs.Prelude.{◌≡◌, IfOk, IfErr};
 ghost use Rattle.ls_files.specs.View.Files.{left_in_source};
+ghost use Rattle.ls_files.specs.View.Opened.{HoldsFrom};
 ghost use Rattle.ls_console.specs.View.Readers.{unread};
 
 use crate::console::Console;
@@ -40,6 +41,29 @@ where
     ensures status { IfErr result (λ status. status ≡ FAILED) }
 {
     match Source::open(opener, file) {
+        Ok(source) => buffered(alloc, file, source, console),
+        Err(fault) => {
+            console.say_unopened(file, &fault);
+            Err(FAILED)
+        }
+    }
+}
+
+/// Opens a recording or an index to read it from a place on. On failure says why and returns the status.
+pub fn open_from<'a, O, E>(
+    alloc: Global,
+    opener: O,
+    file: &'a str,
+    place: u64,
+    console: &mut Console<E>,
+) -> Result<Reader<'a, O>, u8>
+where
+    O: Opens + Drop,
+    E: Outlet,
+    ensures from { IfOk result (λ reader. HoldsFrom (O.holds opener file.now) place (unread O.File.remaining reader)) }
+    ensures status { IfErr result (λ status. status ≡ FAILED) }
+{
+    match Source::open_from(opener, file, place) {
         Ok(source) => buffered(alloc, file, source, console),
         Err(fault) => {
             console.say_unopened(file, &fault);

@@ -1,10 +1,11 @@
 //! Opens files in any thread.
 ghost use Rattle.std.specs.Prelude.{ℕ, List, Option, IfOk};
+ghost use Rattle.ls_files.specs.View.Opened.{HoldsFrom};
 
 use crate::stop::Stop;
 use std::alloc::{AllocError, Global};
 use std::fs::{File, Files, Metadata, OpenFile, OpenOptions, TryLockError};
-use std::io::{Read, Write};
+use std::io::{Read, Seek, SeekFrom, Write};
 use std::os::unix::fs::FileTypeExt;
 use std::{fs, io};
 
@@ -20,6 +21,10 @@ pub trait Opens {
     /// Opens a file to read it.
     fn open(&self, path: &str) -> io::Result<Self::File>
         ensures { IfOk result (λ file. holds self.now path.now (Self.File.remaining file)) };
+
+    /// Opens a file to read it from a place on, which is this number of bytes after its beginning.
+    fn open_from(&self, path: &str, place: u64) -> io::Result<Self::File>
+        ensures { IfOk result (λ file. HoldsFrom (holds self.now path.now) place (Self.File.remaining file)) };
 
     /// Opens a named pipe for reading and writing, which never waits. While it is open, the pipe has a writer.
     fn open_kept(&self, path: &str) -> io::Result<Self::File>;
@@ -117,6 +122,12 @@ impl<'a, R: Files + Eprint> Opens for Opener<'a, R> {
 
     fn open(&self, path: &str) -> io::Result<R::File> {
         File::open(self.rt, path)
+    }
+
+    fn open_from(&self, path: &str, place: u64) -> io::Result<R::File> {
+        let mut file = File::open(self.rt, path)?;
+        file.seek(SeekFrom::Start(place))?;
+        Ok(file)
     }
 
     fn open_kept(&self, path: &str) -> io::Result<R::File> {

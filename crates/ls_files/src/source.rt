@@ -1,6 +1,7 @@
 //! A file that is read.
 ghost use Rattle.std.specs.Prelude.{◌≡◌, Some, IfOk};
 ghost use Rattle.ls_files.specs.View.Files.{left_in_source, ReadsFileAt};
+ghost use Rattle.ls_files.specs.View.Opened.{HoldsFrom};
 
 use crate::front::Front;
 use crate::identity::Identity;
@@ -73,6 +74,14 @@ impl<'a, O: Opens + Drop> Source<'a, O> {
             Err(_) => None,
         };
         Ok(Source::new(opener, path, Some(file), identity))
+    }
+
+    /// Opens a file to read it from a place on, which is this number of bytes after its beginning.
+    pub fn open_from(opener: O, path: &'a str, place: u64) -> io::Result<Source<'a, O>>
+        ensures { IfOk result (λ source. HoldsFrom (O.holds opener path.now) place (left_in_source O.File.remaining source)) }
+    {
+        let file = opener.open_from(path, place)?;
+        Ok(Source::new(opener, path, Some(file), None))
     }
 }
 

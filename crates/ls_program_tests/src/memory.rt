@@ -105,6 +105,17 @@ impl<'m, 'v> Opens for Memory<'m, 'v> {
         }
     }
 
+    fn open_from(&self, path: &str, place: u64) -> io::Result<MemoryFile<'m, 'v>> {
+        match self.find(path) {
+            Some(bytes) => Ok(MemoryFile {
+                rest: &bytes[bytes.len().min(place as usize)..],
+                written: None,
+                length: None,
+            }),
+            None => Err(io::Error::from(ErrorKind::NotFound)),
+        }
+    }
+
     fn open_kept(&self, _path: &str) -> io::Result<MemoryFile<'m, 'v>> {
         Err(io::Error::from(ErrorKind::Unsupported))
     }

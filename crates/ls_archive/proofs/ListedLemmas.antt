@@ -1,0 +1,126 @@
+-- Frames that are shown by the lines of an index, one more at a time, and where that stops.
+use Rattle.std.proofs.Common.{◌≡◌, ℕ, ◌+◌, ◌<◌, List, [], ◌∷◌, ◌++◌, length, take, map, Option, refl, sym, ap, subst, ◌∙◌, arith, append_assoc, append-nil, length-append}
+use Rattle.std.specs.Io.KnownBytes.{Appends}
+use Rattle.std.proofs.KnownBytes.{Appends-nil, Appends-trans}
+use Rattle.std.proofs.Math.Seq.{take-append-add}
+use Rattle.std.proofs.lemmas.List.{length_push, map_push}
+use Rattle.std.proofs.lemmas.List.Concat.{flat_map-append}
+use Rattle.ls_frame.specs.Picture.{Picture}
+use Rattle.ls_frame.specs.Canonical.{canonical}
+use Rattle.ls_frame.specs.View.Known.{Gave, known}
+use Rattle.ls_film.specs.Showing.{show}
+use Rattle.ls_film.proofs.CodestreamLemmas.{show-more}
+use Rattle.ls_archive.specs.declared.listed.ListedFault.{ListedFault}
+use Rattle.ls_archive.specs.declared.listed.ListedFault.TheVariants.{Line, IndexIo, Damaged, Io, Output, NoMemory, TooFew}
+use Rattle.ls_archive.specs.View.Listed.{Shown, IsShown, AreShown, texts_of, codestreams_of, frames_of, HasShown, Shows, GivesShown, StopsNext, StopsAtOutput, StopsAfter, StopsImage, Stops}
+
+-- one more at the end
+flat-push : {A : Type 0} (f : A → List ℕ) (xs : List A) (x : A) → flat_map f (xs ++ x ∷ []) ≡ flat_map f xs ++ f x
+flat-push f xs x = flat_map-append f xs (x ∷ []) ∙ ap (λ s. flat_map f xs ++ s) (append-nil (f x))
+
+show-push : (shown : List Shown) (s : Shown) → show (frames_of (shown ++ s ∷ [])) ≡ show (frames_of shown) ++ canonical s.frame
+show-push shown s = ap show (map_push (λ (s : Shown). s.frame) shown s) ∙ show-more (frames_of shown) s.frame
+
+-- what a reader gave, and what it gave then
+gave-more : (old mid new : Option (List ℕ)) (bytes more all : List ℕ) → Gave old mid (λ read. read ≡ bytes) → Gave mid new (λ read. read ≡ more) → all ≡ bytes ++ more
+    → Gave old new (λ read. read ≡ all)
+gave-more old mid new bytes more all before next is = λ told.
+    let front = before told in
+    let last = next front.0 in (
+      last.0,
+      front.1 ++ last.1,
+      front.2 ∙ ap (λ s. front.1 ++ s) last.2 ∙ sym (append_assoc front.1 last.1 (known new)),
+      ap (λ s. s ++ last.1) front.3 ∙ ap (λ s. bytes ++ s) last.3 ∙ sym is,
+    )
+
+module _ (first offset : ℕ) where
+  -- before the first frame
+  pub shown-none : (index recording written : Option (List ℕ)) → HasShown index index recording recording written written first offset 0 offset 0
+  shown-none index recording written = record {
+    shown = [];
+    count = refl;
+    more = λ others are. let same : first + 0 ≡ first = omega arith in subst (λ k. AreShown k offset others) same are;
+    next_is = omega arith;
+    gave_lines = λ told. (told, [], refl, refl);
+    gave = λ told. (told, [], refl, refl);
+    wrote = Appends-nil written;
+    bytes_are = refl;
+  }
+
+  -- one more frame
+  pub shown-more : (index mid index' recording half recording' written midway out : Option (List ℕ)) (n next bytes size : ℕ) (image : List ℕ)
+      → HasShown index mid recording half written midway first offset n next bytes → GivesShown mid index' half recording' (first + n) next size image → Appends midway out image
+      → HasShown index index' recording recording' written out first offset (n + 1) (next + size) (bytes + length image)
+  shown-more index mid index' recording half recording' written midway out n next bytes size image run gives wrote =
+      let s : Shown = gives.shown in
+      let grows : show (frames_of (run.shown ++ s ∷ [])) ≡ show (frames_of run.shown) ++ image = show-push run.shown s ∙ ap (λ i. show (frames_of run.shown) ++ i) (sym gives.image_is) in
+      let codestreams = flat-push (λ (s : Shown). s.codestream) run.shown s in
+      record {
+        shown = run.shown ++ s ∷ [];
+        count = length_push run.shown s ∙ ap (λ k. k + 1) run.count;
+        more = λ others are.
+            let number : first + (n + 1) ≡ (first + n) + 1 = omega arith in
+            let place : next + size ≡ next + length s.codestream = ap (λ k. next + k) gives.size_is in
+            let after : AreShown ((first + n) + 1) (next + length s.codestream) others =
+            subst (λ k. AreShown k (next + length s.codestream) others) number (subst (λ o. AreShown (first + (n + 1)) o others) place are) in
+            subst (AreShown first offset) (sym (append_assoc run.shown (s ∷ []) others)) (run.more (s ∷ others) (gives.is, after));
+        next_is = omega (arith, run.next_is, gives.size_is, ap length codestreams, length-append (codestreams_of run.shown) s.codestream);
+        gave_lines = gave-more index mid index' (texts_of run.shown) s.text (texts_of (run.shown ++ s ∷ [])) run.gave_lines gives.gave_line (flat-push (λ (s : Shown). s.text) run.shown s);
+        gave = gave-more recording half recording' (codestreams_of run.shown) s.codestream (codestreams_of (run.shown ++ s ∷ [])) run.gave gives.gave codestreams;
+        wrote = subst (Appends written out) (sym grows) (Appends-trans written midway out (show (frames_of run.shown)) image run.wrote wrote);
+        bytes_are = ap (λ k. k + length image) run.bytes_are ∙ sym (length-append (show (frames_of run.shown)) image) ∙ sym (ap length grows);
+      }
+
+  -- all were shown
+  pub shown-all : (index index' recording recording' written written' : Option (List ℕ)) (n next bytes : ℕ) → HasShown index index' recording recording' written written' first offset n next bytes
+      → Shows index index' recording recording' written written' first offset n
+  shown-all index index' recording recording' written written' n next bytes run = record {
+    shown = run.shown;
+    count = run.count;
+    are = subst (AreShown first offset) (append-nil run.shown) (run.more [] tt);
+    gave_lines = run.gave_lines;
+    gave = run.gave;
+    wrote = run.wrote;
+  }
+
+  -- the next one can't be shown
+  pub stops-next : (index mid index' recording half recording' written written' : Option (List ℕ)) (n next bytes : ℕ) (fault : ListedFault)
+      → HasShown index mid recording half written written' first offset n next bytes → StopsNext mid index' half recording' (first + n) next fault
+      → Stops index index' recording recording' written written' first offset fault
+  stops-next index mid index' recording half recording' written written' n next bytes (Line m) run why =
+      record { mid = mid; half = half; n = n; next = next; shows = shown-all index mid recording half written written' n next bytes run; why = why }
+  stops-next index mid index' recording half recording' written written' n next bytes IndexIo run why =
+      record { mid = mid; half = half; n = n; next = next; shows = shown-all index mid recording half written written' n next bytes run; why = why }
+  stops-next index mid index' recording half recording' written written' n next bytes (Damaged m damage) run why =
+      record { mid = mid; half = half; n = n; next = next; shows = shown-all index mid recording half written written' n next bytes run; why = why }
+  stops-next index mid index' recording half recording' written written' n next bytes (Io m) run why =
+      record { mid = mid; half = half; n = n; next = next; shows = shown-all index mid recording half written written' n next bytes run; why = why }
+  stops-next index mid index' recording half recording' written written' n next bytes (Output count) run why = absurd why
+  stops-next index mid index' recording half recording' written written' n next bytes NoMemory run why =
+      record { mid = mid; half = half; n = n; next = next; shows = shown-all index mid recording half written written' n next bytes run; why = why }
+  stops-next index mid index' recording half recording' written written' n next bytes (TooFew m) run why =
+      record { mid = mid; half = half; n = n; next = next; shows = shown-all index mid recording half written written' n next bytes run; why = why }
+
+  -- a part of its image was written
+  pub stops-image : (index mid index' recording half recording' written midway out : Option (List ℕ)) (n next bytes size : ℕ) (image : List ℕ) (fault : ListedFault)
+      → HasShown index mid recording half written midway first offset n next bytes → GivesShown mid index' half recording' (first + n) next size image → StopsImage midway out bytes image fault
+      → Stops index index' recording recording' written out first offset fault
+  stops-image index mid index' recording half recording' written midway out n next bytes size image (Output count) run gives stop =
+      let s : Shown = gives.shown in
+      let before : List ℕ = show (frames_of run.shown) in
+      let grows : show (frames_of (run.shown ++ s ∷ [])) ≡ before ++ image = show-push run.shown s ∙ ap (λ i. before ++ i) (sym gives.image_is) in
+      let k : ℕ = stop.0 in
+      let part : take count (show (frames_of (run.shown ++ s ∷ []))) ≡ before ++ take k image =
+      ap (take count) grows ∙ ap (λ c. take c (before ++ image)) (stop.1 ∙ ap (λ b. b + k) run.bytes_are) ∙ take-append-add before image k in
+      record {
+        shown = run.shown ++ s ∷ [];
+        are = run.more (s ∷ []) (gives.is, tt);
+        part = omega (arith, ap length grows, length-append before image, run.bytes_are, stop.1, stop.2);
+        wrote = subst (Appends written out) (sym part) (Appends-trans written midway out before (take k image) run.wrote stop.3);
+      }
+  stops-image index mid index' recording half recording' written midway out n next bytes size image (Line m) run gives stop = absurd stop
+  stops-image index mid index' recording half recording' written midway out n next bytes size image IndexIo run gives stop = absurd stop
+  stops-image index mid index' recording half recording' written midway out n next bytes size image (Damaged m damage) run gives stop = absurd stop
+  stops-image index mid index' recording half recording' written midway out n next bytes size image (Io m) run gives stop = absurd stop
+  stops-image index mid index' recording half recording' written midway out n next bytes size image NoMemory run gives stop = absurd stop
+  stops-image index mid index' recording half recording' written midway out n next bytes size image (TooFew m) run gives stop = absurd stop
