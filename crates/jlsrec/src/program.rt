@@ -8,7 +8,7 @@ use ls_files::{Locks, Makes};
 use ls_film::Part;
 use ls_frame::{Counted, Outlet, keep_blocks};
 use ls_reading::{
-    check_recording, code, code_with_index, index, list, replay_file, show, show_whole,
+    check_recording, code, code_with_index, index, list, replay_file, show, show_listed, show_whole,
     verify_files,
 };
 use ls_recording::record_films;
@@ -79,6 +79,11 @@ where
                     frames,
                     workers,
                 } => show(program, file, frames.map(part_of), workers),
+                Request::Listed {
+                    file,
+                    index,
+                    frames,
+                } => show_listed(program, file, index, part_of(frames)),
                 Request::Salvage { file, index } => show_whole(program, file, index),
                 Request::Index { file, sums } => index(program, file, sums),
                 Request::Check {

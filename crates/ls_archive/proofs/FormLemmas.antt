@@ -64,7 +64,7 @@ same_entry a b one two bytes same says says' =
     λ i. record { bytes = bytes i; kind = kind i; width = width i; height = height i; precision = precision i; parameters = parameters i }
 
 -- two entries at the front of the same bytes are equal
-first_same : (a b : Entry) (rest more : List ℕ) → IsEntry a → IsEntry b → a.bytes ++ rest ≡ b.bytes ++ more → (a ≡ b) × (rest ≡ more)
+pub first_same : (a b : Entry) (rest more : List ℕ) → IsEntry a → IsEntry b → a.bytes ++ rest ≡ b.bytes ++ more → (a ≡ b) × (rest ≡ more)
 first_same a b rest more is is' same =
     let one = same_read is.outline is'.outline rest more
     (sym (outline_more a.bytes rest is.outline is.short is.complete) ∙ ap outline_of same ∙ outline_more b.bytes more is'.outline is'.short is'.complete) in

@@ -9,6 +9,7 @@ pub mod FormLemmas
 pub mod FrontLineLemmas
 pub mod IndexLemmas
 pub mod LineLemmas
+pub mod ListedLaws
 pub mod ListedLemmas
 pub mod NextLineLemmas
 pub mod PlaceLemmas

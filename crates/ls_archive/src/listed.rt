@@ -1,8 +1,8 @@
 //! Frames of a recording that are shown by the lines of its index, so that those before them needn't be read.
-ghost use Rattle.std.specs.Prelude.{◌≡◌, ◌⊎◌, ◌+◌, ◌*◌, ◌^◌, ◌<◌, ◌≤◌, ℕ, true, false, codes, length, IfOk, IfErr, OnOk, IfSome, IfNone};
-ghost use Rattle.std.specs.Io.KnownBytes.{Appends, IsAtEnd};
+ghost use Rattle.std.specs.Prelude.{◌≡◌, ◌⊎◌, ◌+◌, ◌*◌, ◌^◌, ◌<◌, ◌≤◌, ℕ, true, false, [], codes, length, IfOk, IfErr, OnOk, IfSome, IfNone};
+ghost use Rattle.std.specs.Io.KnownBytes.{Appends};
 ghost use Rattle.ls_frame.specs.View.Devices.{count_after};
-ghost use Rattle.ls_frame.specs.View.Known.{Gave};
+ghost use Rattle.ls_frame.specs.View.Known.{Gave, Tells, known};
 ghost use Rattle.ls_film.specs.Film.{most_frames};
 ghost use Rattle.ls_film.specs.View.Steps.{failed_by};
 ghost use Rattle.ls_archive.specs.View.Listed.{HasPassed, StopsPassing, Shows, Stops, StopsNext, GivesShown, StopsImage, listed_fault, blames_index, blames_recording, blames_writer};
@@ -78,7 +78,7 @@ pub fn play_listed<I: Feed, R: Feed, W: Outlet>(
     ensures shows { IfOk result (Shows (I.remaining index.old) (I.remaining index.new)
         (R.remaining recording.old) (R.remaining recording.new) (W.contents writer.old) (W.contents writer.new) part.first offset) }
     ensures count { IfOk result (λ n. IfSome part.last (λ last. part.first + n ≡ last + 1)) }
-    ensures all { IfOk result (λ n. IfNone part.last ((0 < n) × ((part.first + n ≡ most_frames) ⊎ IsAtEnd (I.remaining index.new)))) }
+    ensures all { IfOk result (λ n. IfNone part.last ((0 < n) × ((part.first + n ≡ most_frames) ⊎ (Tells (I.remaining index.old) → known (I.remaining index.new) ≡ [])))) }
     ensures stops { IfErr result (Stops (I.remaining index.old) (I.remaining index.new)
         (R.remaining recording.old) (R.remaining recording.new) (W.contents writer.old) (W.contents writer.new) part.first offset) }
     ensures index_reads { I.failed_reads index.new ≡ count_after (failed_by blames_index result) (I.failed_reads index.old) }

@@ -59,6 +59,7 @@ recording_asked words tuning files preset text reads named few (Some (request.Re
 recording_asked words tuning files preset text reads named few (Some (request.List file)) has = absurd has
 recording_asked words tuning files preset text reads named few (Some (request.Code file index)) has = absurd has
 recording_asked words tuning files preset text reads named few (Some (request.Play file frames workers)) has = absurd has
+recording_asked words tuning files preset text reads named few (Some (request.Listed file index frames)) has = absurd has
 recording_asked words tuning files preset text reads named few (Some (request.Salvage file index)) has = absurd has
 recording_asked words tuning files preset text reads named few (Some (request.Index file sums)) has = absurd has
 recording_asked words tuning files preset text reads named few (Some (request.Check file index workers strict)) has = absurd has

@@ -42,7 +42,7 @@ use texts::{
     PLAYERS_WANTED, SALVAGE_WANTED, TOO_MANY_FILMS,
 };
 
-/// A request, one variant for each command, but two for `play`.
+/// A request, one variant for each command, but three for `play`.
 #[derive(Drop)]
 pub enum Request<'a> {
     /// List the frames of a film.
@@ -60,6 +60,12 @@ pub enum Request<'a> {
         frames: Option<Frames>,
         /// The number of workers that decode; one if only some frames are played.
         workers: u8,
+    },
+    /// Play some frames of a recording, which are found by its index.
+    Listed {
+        file: &'a str,
+        index: &'a str,
+        frames: Frames,
     },
     /// Play the intact frames of a recording, past damage.
     Salvage {
@@ -313,7 +319,7 @@ fn read_play<'a>(words: &ArgMatches<'a>) -> Result<Option<Request<'a>>, &'static
     let salvage = words.get_flag("salvage");
     let frames = frames_of(words, salvage)?;
     let index = words.get_str("index");
-    if index.is_some() && !salvage {
+    if index.is_some() && !salvage && frames.is_none() {
         return Err(SALVAGE_WANTED);
     }
     let workers = workers_of(words);
@@ -326,11 +332,18 @@ fn read_play<'a>(words: &ArgMatches<'a>) -> Result<Option<Request<'a>>, &'static
     if salvage {
         return Ok(Some(Request::Salvage { file, index }));
     }
-    Ok(Some(Request::Play {
-        file,
-        frames,
-        workers,
-    }))
+    match (frames, index) {
+        (Some(frames), Some(index)) => Ok(Some(Request::Listed {
+            file,
+            index,
+            frames,
+        })),
+        _ => Ok(Some(Request::Play {
+            file,
+            frames,
+            workers,
+        })),
+    }
 }
 
 /// The frames of `--frames`, if it is given; not beside `--salvage`.

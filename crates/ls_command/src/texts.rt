@@ -75,14 +75,16 @@ on standard error
 where N counts the frames and the gaps before it. The status is 1 if there was a gap";
 
 pub const INDEX_OF_SALVAGE_HELP: &str = "\
-The recording's index, with sums, as `index` wrote it: gaps are then reported by the recorded numbers, and at the end a
-line on standard error reports each range of recorded frames that weren't played
+The recording's index, as `index` wrote it. With --frames, only lines and codestreams of these frames are read; each is
+played only if it is exactly what its line says, with the sum if the line has one, and a part to the end ends with INDEX.
+With --salvage INDEX must have sums: gaps are then reported by the recorded numbers, and at the end a line on standard
+error reports each range of recorded frames that weren't played
   FILE: frame N is lost
-or `frames N to M are lost`. FILE is read twice, so it can't be a pipe";
+or `frames N to M are lost`. FILE can't be a pipe";
 
 pub const FRAMES_OR_SALVAGE: &str = "--frames and --salvage don't go together";
 
-pub const SALVAGE_WANTED: &str = "--index goes only with --salvage";
+pub const SALVAGE_WANTED: &str = "--index goes only with --frames or --salvage";
 
 pub const PLAYERS_HELP: &str = "\
 The number of workers that decode, 1 to 16. With 2 or more, twice as many codestreams are read at once, and their

@@ -1,7 +1,7 @@
 //! The causes of faults, and what is said when an engine over a file stops.
 ghost use Rattle.std.specs.Prelude.{◌≡◌, MatchResult};
 
-use ls_archive::{CheckFault, IndexFault, VerifyFault};
+use ls_archive::{CheckFault, IndexFault, ListedFault, VerifyFault};
 use ls_console::{Cause, Console, DONE, FAILED, Reader, Shown, cause_of_input, explain};
 use ls_files::Opens;
 use ls_film::{FilmFault, PartFault, PlayFault};
@@ -71,6 +71,16 @@ impl Caused for CheckFault {
         match self {
             CheckFault::Io => Cause::Reading,
             CheckFault::IndexIo => Cause::Reading,
+            _ => Cause::Other,
+        }
+    }
+}
+
+impl Caused for ListedFault {
+    fn cause(&self) -> Cause {
+        match self {
+            ListedFault::IndexIo | ListedFault::Io(_) => Cause::Reading,
+            ListedFault::Output(_) => Cause::Writing,
             _ => Cause::Other,
         }
     }

@@ -26,7 +26,7 @@
 //!
 //! In reading order: `cause` (the causes of faults), `asked` (what a command that writes lines is asked for), `films`
 //! (`list` and `code`), `indexing` (the file of an index that is written together with its recording), `playing`
-//! (`play`), `recorded` (the recorded numbers of gaps, and lost frames), `archive` (`index`, `check` and `verify`),
+//! (`play`), `listed` (a part that is found by an index), `recorded` (the recorded numbers of gaps, and lost frames), `archive` (`index`, `check` and `verify`),
 //! `strict` (whether codestreams are strict), `replaying` (`replay`). The contracts say which status each returns, and what each has read and written if it is 0
 //! (`specs/View/Commands.antt`, `specs/View/Replays.antt`); what each engine does over any reader and writer is said at
 //! the function that calls it. What is said on standard error, the tests of the whole program show.
@@ -37,6 +37,7 @@ mod asked;
 mod cause;
 mod films;
 mod indexing;
+mod listed;
 mod playing;
 mod recorded;
 mod replaying;
@@ -44,5 +45,6 @@ mod strict;
 
 pub use archive::{check_recording, index, verify_files};
 pub use films::{code, code_with_index, list};
+pub use listed::show_listed;
 pub use playing::{show, show_whole};
 pub use replaying::replay_file;

@@ -1,12 +1,14 @@
 -- Frames of a recording that are shown by the lines of its index: each codestream has exactly its line.
-use Rattle.std.specs.Prelude.{◌≡◌, ◌⊎◌, ℕ, ◌+◌, ◌<◌, ◌≤◌, List, [], ◌∷◌, ◌++◌, length, take, drop, map, flat_map, Option, None, Bool, true, false}
+use Rattle.std.specs.Prelude.{◌≡◌, ◌⊎◌, ℕ, ◌+◌, ◌^◌, ◌<◌, ◌≤◌, List, [], ◌∷◌, ◌++◌, length, take, drop, map, flat_map, codes, Option, None, Bool, true, false}
 use Rattle.std.specs.Io.KnownBytes.{Appends}
+use Rattle.std.specs.List.{AllZip}
 use Rattle.ls_frame.specs.Canonical.{canonical}
 use Rattle.ls_frame.specs.Picture.{Picture}
 use Rattle.ls_frame.specs.View.Known.{Tells, Gave, HadBytes, WasAtEnd, known}
 use Rattle.ls_stream.specs.Grammar.{Spells}
+use Rattle.ls_film.specs.Film.{most_frames}
 use Rattle.ls_film.specs.Showing.{show}
-use Rattle.ls_archive.specs.View.Checking.{Line as IndexLine, IsLine, AreLines, texts, size_of, HasLine, IsGood, IsDamage}
+use Rattle.ls_archive.specs.View.Checking.{Line as IndexLine, IsLine, AreLines, texts, size_of, HasLine, IsGood, IsDamage, AreFound}
 use Rattle.ls_archive.specs.View.Checks.{GaveAtMost, StopsNextLine, StopsReading}
 use Rattle.ls_archive.specs.declared.checking.CheckFault.{CheckFault}
 use Rattle.ls_archive.specs.declared.checking.CheckFault.TheVariants as fault
@@ -84,7 +86,7 @@ IsDamagedNext index index' recording recording' n offset damage =
     × (IsGood n offset l.text bytes → ⊥) × IsDamage n offset l bytes damage
 
 -- What a stop at line n says: its own fault, as of a check; what is wrong with its codestream; a read of that failed; an allocation failed
--- for one of them; or the index is at its end.
+-- for one of them; or the index is at its end, and the recording wasn't read further.
 abbrev pub StopsNext : Option (List ℕ) → Option (List ℕ) → Option (List ℕ) → Option (List ℕ) → ℕ → ℕ → ListedFault → Type 0
 StopsNext index index' recording recording' n offset (Line m) = (m ≡ n) × StopsNextLine index index' n offset (fault.Line n)
 StopsNext index index' recording recording' n offset IndexIo = StopsNextLine index index' n offset fault.IndexIo
@@ -92,7 +94,7 @@ StopsNext index index' recording recording' n offset (Damaged m damage) = (m ≡
 StopsNext index index' recording recording' n offset (Io m) = (m ≡ n) × ((most : ℕ) × StopsReading recording recording' most fault.Io)
 StopsNext index index' recording recording' n offset (Output bytes) = ⊥
 StopsNext index index' recording recording' n offset NoMemory = HadBytes index
-StopsNext index index' recording recording' n offset (TooFew m) = (m ≡ n) × WasAtEnd index index'
+StopsNext index index' recording recording' n offset (TooFew m) = (m ≡ n) × WasAtEnd index index' × (recording' ≡ recording)
 
 -- Only a part of an image was written, after this many bytes.
 abbrev pub StopsImage : Option (List ℕ) → Option (List ℕ) → ℕ → List ℕ → ListedFault → Type 0
@@ -156,6 +158,32 @@ pub record StopsPassing (index index' : Option (List ℕ)) (count : ℕ) (fault 
   pub before : m < count
   pub passed : HasPassed index mid m offset
   pub why : StopsNext mid index' None None m offset fault
+
+-- ---- an index of this recording
+
+-- a line begins after these bytes: they are none, or the last is LF
+abbrev pub BeginsLine : List ℕ → Type 0
+BeginsLine front = (front ≡ []) ⊎ ((before : List ℕ) × (front ≡ before ++ codes "\n"))
+
+-- the codestreams that lines say of bytes, the first at their front
+abbrev pub codestreams_by : List IndexLine → List ℕ → List (List ℕ)
+codestreams_by [] bytes = []
+codestreams_by (l ∷ ls) bytes = take l.size bytes ∷ codestreams_by ls (drop l.size bytes)
+
+-- The index is these lines, and a check of the recording by it finds no damage.
+pub record IsIndexFor (index recording : List ℕ) (lines : List IndexLine) : Type 0 where
+  pub are : AreLines 0 0 lines
+  pub few : length lines ≤ most_frames
+  pub index_is : index ≡ texts lines
+  pub good : AreFound 0 0 lines recording []
+
+-- If a check of a recording by an index finds no damage, then what is shown by the index, read from where any line begins and from the offset
+-- at which the recording is read, are the frames from the first one on.
+abbrev pub ShownAreFrames : Type 0
+ShownAreFrames = (index recording front left rest more : List ℕ) (lines : List IndexLine) (first offset : ℕ) (shown : List Shown)
+    → IsIndexFor index recording lines → index ≡ front ++ left → BeginsLine front → first < most_frames → offset < 2 ^ 64
+    → AreShown first offset shown → 0 < length shown → left ≡ texts_of shown ++ more → drop offset recording ≡ codestreams_of shown ++ rest
+    → AllZip Spells (take (length shown) (drop first (codestreams_by lines recording))) (frames_of shown)
 
 -- ---- failures
 

@@ -90,6 +90,9 @@ module _ (words : ArgMatches) where
   Asks name (request.Play file frames workers) =
       (name ≡ codes "play") × HasText (codes "FILE") (Some file.now) × AsksFrames frames × AsksWorkers workers × IsGiven (codes "salvage") false
       × HasText (codes "index") None × IfSome frames (λ _. workers ≤ 1)
+  Asks name (request.Listed file index frames) =
+      (name ≡ codes "play") × HasText (codes "FILE") (Some file.now) × HasText (codes "index") (Some index.now) × AsksFrames (Some frames)
+      × IsGiven (codes "salvage") false
   Asks name (request.Salvage file index) =
       (name ≡ codes "play") × HasText (codes "FILE") (Some file.now) × HasText (codes "index") (text_in index) × IsGiven (codes "salvage") true
       × HasText (codes "frames") None
