@@ -1,16 +1,15 @@
 -- What is shown by an index that passes a check are the recording's frames.
-use Rattle.std.proofs.Common.{◌≡◌, ◌≢◌, ◌⊎◌, ◌<◌, ◌≤◌, ◌+◌, ◌*◌, ◌^◌, ℕ, suc, Bool, true, false, inl, inr, List, [], ◌∷◌, ◌++◌, length, take, drop, get_or, codes, decimal, flat_map, refl, sym, ap, subst, ◌∙◌, arith, append_assoc, length-append}
+use Rattle.std.proofs.Common.{◌≡◌, ◌≢◌, ◌<◌, ◌≤◌, ◌+◌, ◌*◌, ◌^◌, ℕ, suc, Bool, true, false, inl, inr, List, [], ◌∷◌, ◌++◌, length, take, drop, get_or, codes, decimal, flat_map, refl, sym, ap, subst, ◌∙◌, arith, append_assoc, length-append}
 use Rattle.std.specs.List.{AllByRecursion, AllZip}
 use Rattle.std.proofs.lemmas.List.{take-append-drop, drop-drop}
-use Rattle.std.proofs.lemmas.Fmt.{decimal_injective, decimal_is_IsNumeral, decimal_nonempty}
+use Rattle.std.proofs.lemmas.Fmt.{decimal_injective, decimal_is_IsNumeral}
 use Rattle.std.proofs.lemmas.Str.Parse.{digit_at}
-use Rattle.ls_stream.specs.Grammar.{Spells, most_bytes}
+use Rattle.ls_stream.specs.Grammar.{Spells}
 use Rattle.ls_film.specs.Film.{most_frames}
 use Rattle.ls_film.specs.Listing.{kind_text, column}
-use Rattle.ls_archive.specs.Index.{Entry, columns, sum_column, sum_text, line}
-use Rattle.ls_archive.specs.View.Entries.{IsEntry}
-use Rattle.ls_archive.specs.View.Checking.{Line, HasNoLineFeed, beginning, IsLine, AreLines, texts, size_of, HasLine, IsGood, AreFound}
-use Rattle.ls_archive.specs.View.Listed.{Shown, IsShown, AreShown, texts_of, codestreams_of, frames_of, BeginsLine, codestreams_by, IsIndexFor, ShownAreFrames}
+use Rattle.ls_archive.specs.Index.{Entry, columns, sum_column, line}
+use Rattle.ls_archive.specs.View.Checking.{Line, HasNoLineFeed, beginning, IsLine, AreLines, texts, size_of, HasLine, AreFound}
+use Rattle.ls_archive.specs.View.Listed.{Shown, AreShown, texts_of, codestreams_of, frames_of, BeginsLine, codestreams_by, IsIndexFor, ShownAreFrames}
 use Rattle.ls_archive.proofs.ColumnLemmas.{same_rest}
 use Rattle.ls_archive.proofs.FormLemmas.{first_same}
 use Rattle.ls_archive.proofs.LineLemmas.{head_or}
@@ -115,9 +114,10 @@ sized sums n offset e = (
 line_parts : (sums : Bool) (n offset : ℕ) (e : Entry) (rest : List ℕ) → (left : List ℕ) × (line sums n offset e ++ rest ≡ decimal n ++ 32 ∷ (decimal offset ++ 32 ∷ left))
 line_parts sums n offset e rest =
     let one = sized sums n offset e in
-    let after : List ℕ = decimal (length e.bytes) ++ 32 ∷ one.0 in
-    (after ++ rest,
-    ap (λ l. l ++ rest) one.1 ∙ append_assoc (decimal n) (32 ∷ (decimal offset ++ 32 ∷ after)) rest ∙ ap (λ s. decimal n ++ 32 ∷ s) (append_assoc (decimal offset) (32 ∷ after) rest))
+    let after : List ℕ = decimal (length e.bytes) ++ 32 ∷ one.0 in (
+      after ++ rest,
+      ap (λ l. l ++ rest) one.1 ∙ append_assoc (decimal n) (32 ∷ (decimal offset ++ 32 ∷ after)) rest ∙ ap (λ s. decimal n ++ 32 ∷ s) (append_assoc (decimal offset) (32 ∷ after) rest),
+    )
 
 same_place : (s s' : Bool) (m n o o' : ℕ) (e e' : Entry) (rest more : List ℕ) → m < 2 ^ 64 → n < 2 ^ 64 → o < 2 ^ 64 → o' < 2 ^ 64
     → line s m o e ++ rest ≡ line s' n o' e' ++ more → (m ≡ n) × (o ≡ o')
@@ -226,9 +226,10 @@ shown_found n offset (l ∷ ls) bytes rest more (s ∷ ss) listed (inl good) are
     ap (λ t. t ++ texts ls) (sym has.text_is) ∙ lines ∙ append_assoc s.text (texts_of ss) more ∙ ap (λ t. t ++ (texts_of ss ++ more)) its.text_is
     ∙ ap (λ e. line its.sums n offset e ++ (texts_of ss ++ more)) (sym same.0) in
     let next : texts ls ≡ texts_of ss ++ more = same_sums has.sums its.sums n offset has.entry (texts ls) (texts_of ss ++ more) split_lines in
-    let shorter : length s.codestream ≡ l.size = ap length codestream ∙ sym (size_said n offset l (take l.size bytes) listed.0 has) in
-    (subst (λ b. Spells b s.frame) codestream are.0.spells,
-    shown_found (n + 1) (offset + l.size) ls (drop l.size bytes) rest more ss listed.1 good.1 (subst (λ k. AreShown (n + 1) (offset + k) ss) shorter are.1) next same.1)
+    let shorter : length s.codestream ≡ l.size = ap length codestream ∙ sym (size_said n offset l (take l.size bytes) listed.0 has) in (
+      subst (λ b. Spells b s.frame) codestream are.0.spells,
+      shown_found (n + 1) (offset + l.size) ls (drop l.size bytes) rest more ss listed.1 good.1 (subst (λ k. AreShown (n + 1) (offset + k) ss) shorter are.1) next same.1,
+    )
 
 -- the first of what is shown stands where its line says
 placed : (N O first offset : ℕ) (after : List Line) (bytes rest more : List ℕ) (s : Shown) (ss : List Shown) → N < 2 ^ 64 → O < 2 ^ 64 → first < 2 ^ 64 → offset < 2 ^ 64

@@ -1,5 +1,5 @@
 -- Frames that are shown by the lines of an index, one more at a time, and where that stops.
-use Rattle.std.proofs.Common.{◌≡◌, ◌≢◌, ◌⊎◌, inl, inr, ℕ, ◌+◌, ◌<◌, List, [], ◌∷◌, ◌++◌, length, take, drop, map, flat_map, Option, None, Some, IfNone, ◌-◌, ◌≤◌, refl, sym, ap, subst, ◌∙◌, arith, append_assoc, append-nil, length-append, take-append-drop}
+use Rattle.std.proofs.Common.{◌≡◌, ◌≢◌, inl, inr, ℕ, ◌+◌, List, [], ◌∷◌, ◌++◌, length, take, drop, flat_map, Option, None, Some, IfNone, ◌-◌, refl, sym, ap, subst, ◌∙◌, arith, append_assoc, append-nil, length-append, take-append-drop}
 use Rattle.std.specs.Io.KnownBytes.{Appends}
 use Rattle.std.proofs.KnownBytes.{Appends-nil, Appends-trans}
 use Rattle.std.proofs.Math.Seq.{take-append-add}
@@ -7,11 +7,11 @@ use Rattle.std.proofs.lemmas.List.{length_push, map_push}
 use Rattle.std.proofs.lemmas.List.Concat.{flat_map-append}
 use Rattle.ls_frame.specs.Picture.{Picture}
 use Rattle.ls_frame.specs.Canonical.{canonical}
-use Rattle.ls_frame.specs.View.Known.{Tells, Gave, HadBytes, WasAtEnd, known}
+use Rattle.ls_frame.specs.View.Known.{Tells, Gave, WasAtEnd, known}
 use Rattle.ls_film.specs.View.Sources.{IsShown as IsImageOf}
 use Rattle.ls_archive.specs.declared.checking.CheckFault.{CheckFault}
 use Rattle.ls_archive.specs.declared.checking.CheckFault.TheVariants as check
-use Rattle.ls_archive.specs.View.Checking.{Line as IndexLine, IsLine, AreLines, texts, size_of, HasLine}
+use Rattle.ls_archive.specs.View.Checking.{Line as IndexLine, IsLine, AreLines, texts, HasLine}
 use Rattle.ls_archive.specs.View.Checks.{GaveAtMost, StopsReading}
 use Rattle.ls_archive.proofs.CheckLemmas.{had-line, texts-push, size-push}
 use Rattle.ls_film.specs.Showing.{show}
@@ -23,7 +23,7 @@ use Rattle.ls_stream.specs.declared.faults.StreamFault.{StreamFault}
 use Rattle.ls_stream.specs.declared.faults.StreamFault.TheVariants as stream
 use Rattle.ls_archive.specs.declared.listed.ListedFault.{ListedFault}
 use Rattle.ls_archive.specs.declared.listed.ListedFault.TheVariants.{Line, IndexIo, Damaged, Io, Output, NoMemory, TooFew}
-use Rattle.ls_archive.specs.View.Listed.{Shown, IsShown, AreShown, texts_of, codestreams_of, frames_of, HasShown, Shows, GivesShown, StopsNext, StopsAtOutput, StopsAfter, StopsImage, Stops, HasPassed, listed_fault}
+use Rattle.ls_archive.specs.View.Listed.{Shown, AreShown, texts_of, codestreams_of, frames_of, HasShown, Shows, GivesShown, StopsNext, StopsAfter, StopsImage, Stops, HasPassed, listed_fault}
 
 -- one more at the end
 flat-push : {A : Type 0} (f : A → List ℕ) (xs : List A) (x : A) → flat_map f (xs ++ x ∷ []) ≡ flat_map f xs ++ f x
@@ -125,19 +125,20 @@ module _ (first offset : ℕ) where
   shown-fewer index index' recording recording' written written' m stops =
       let ends : (m ≡ first + stops.n) × WasAtEnd stops.mid index' × (recording' ≡ stops.half) = stops.why in
       let run = stops.shows in
-      let n : stops.n ≡ m - first = omega (arith, ends.0) in
-      (record {
-        shown = run.shown;
-        count = run.count ∙ n;
-        are = run.are;
-        gave_lines = λ told.
-            let front = run.gave_lines told in
-            let none = ends.1 front.0 in
-            (none.0, front.1, front.2 ∙ ap (λ s. front.1 ++ s) (none.1 ∙ sym none.2), front.3);
-        gave = subst (λ r. Gave recording r (λ read. read ≡ codestreams_of run.shown)) (sym ends.2) run.gave;
-        wrote = run.wrote;
-      },
-      λ told. (ends.1 (run.gave_lines told).0).2)
+      let n : stops.n ≡ m - first = omega (arith, ends.0) in (
+        record {
+          shown = run.shown;
+          count = run.count ∙ n;
+          are = run.are;
+          gave_lines = λ told.
+              let front = run.gave_lines told in
+              let none = ends.1 front.0 in
+              (none.0, front.1, front.2 ∙ ap (λ s. front.1 ++ s) (none.1 ∙ sym none.2), front.3);
+          gave = subst (λ r. Gave recording r (λ read. read ≡ codestreams_of run.shown)) (sym ends.2) run.gave;
+          wrote = run.wrote;
+        },
+        λ told. (ends.1 (run.gave_lines told).0).2,
+      )
 
   -- a part of its image was written
   pub stops-image : (index mid index' recording half recording' written midway out : Option (List ℕ)) (number n next bytes size : ℕ) (image : List ℕ) (fault : ListedFault) → number ≡ first + n
@@ -194,11 +195,11 @@ module _ (index index' recording recording' : Option (List ℕ)) (n offset : ℕ
     size_is = sized;
     gave_line = λ told. let read = gave told in (read.0, read.1, read.2, sym read.3);
     gave = λ told. (
-        taken.tells told,
-        bytes,
-        sym (take-append-drop l.size (known recording)) ∙ ap (λ s. s ++ drop l.size (known recording)) (sym (taken.taken told)) ∙ ap (λ s. bytes ++ s) (sym (taken.left told)),
-        refl,
-      );
+      taken.tells told,
+      bytes,
+      sym (take-append-drop l.size (known recording)) ∙ ap (λ s. s ++ drop l.size (known recording)) (sym (taken.taken told)) ∙ ap (λ s. bytes ++ s) (sym (taken.left told)),
+      refl,
+    );
     image_is = made;
   }
 

@@ -31,8 +31,8 @@ use ls_film::MOST_FRAMES;
 use ls_film::codestreams::made_of;
 use ls_film::engine::Made;
 use ls_frame::{Feed, FeedFault};
-use ls_stream::laws::outlines_follow_the_grammar;
 use ls_stream::StreamFault;
+use ls_stream::laws::outlines_follow_the_grammar;
 use memchr::memchr;
 use std::alloc::{AllocError, Global};
 use std::str::from_utf8;
@@ -457,7 +457,11 @@ fn after_number(text: &[u8]) -> Option<&[u8]>
 }
 
 /// Takes `most` bytes off a reader, or all that are left. Fails with `Io` if a read fails, or with `NoMemory`.
-pub(crate) fn take_bytes<R: Feed>(alloc: Global, reader: &mut R, most: usize) -> Result<Vec<u8>, CheckFault>
+pub(crate) fn take_bytes<R: Feed>(
+    alloc: Global,
+    reader: &mut R,
+    most: usize,
+) -> Result<Vec<u8>, CheckFault>
     ensures taken { IfOk result (λ bytes. GaveAtMost (R.remaining reader.old) (R.remaining reader.new) most bytes.items) }
     ensures blame { IfErr result (λ fault. fault ≢ CheckFault.IndexIo) }
     ensures stops { IfErr result (StopsReading (R.remaining reader.old) (R.remaining reader.new) most) }

@@ -1,8 +1,7 @@
-use Rattle.std.proofs.Common.{◌≡◌, ◌⊎◌, [], ◌++◌, List, ℕ, take, drop, true, false, Ok, Err, sym, ap, subst, ◌∙◌, take-append-drop, append-nil, IfErr, OnErr, rules}
+use Rattle.std.proofs.Common.{◌≡◌, ◌⊎◌, [], ℕ, take, drop, true, false, Ok, sym, ap, subst, ◌∙◌, take-append-drop, IfErr, OnErr, rules}
 use Rattle.std.proofs.lemmas.Result.{IfOk-weaker}
 use Rattle.ls_stream.specs.Grammar.{Spells}
 use Rattle.ls_stream.specs.View.Outlines.{outline_of, IsFirstFault}
-use Rattle.ls_film.specs.View.Codestreams.{IsUnmade}
 use Rattle.ls_archive.specs.View.Checking.{Line, IsGood, IsDamage}
 use Rattle.ls_archive.specs.Index.{line}
 use Rattle.ls_archive.proofs.CheckLemmas.{spelled_front, has_line}

@@ -1,4 +1,4 @@
-use Rattle.std.proofs.Common.{◌≡◌, ◌+◌, refl, arith, rules}
+use Rattle.std.proofs.Common.{◌+◌, refl, arith, rules}
 use Rattle.std.proofs.lemmas.Result.{err_from_is_err_and}
 use Rattle.ls_archive.proofs.ListedLemmas.{shown-none, shown-more, shown-all, stops-next, stops-image}
 use Rattle.ls_archive.proofs.listed.show_listed.Goals as goal
