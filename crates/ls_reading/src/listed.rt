@@ -1,6 +1,5 @@
 //! The command `play` for a part that is found by the recording's index, so that nothing before it is read.
-ghost use Rattle.std.specs.Prelude.{◌≡◌, ◌≤◌, IfOk, IfErr};
-ghost use Rattle.ls_film.specs.Film.{most_frames};
+ghost use Rattle.std.specs.Prelude.{◌≡◌, IfOk, IfErr};
 ghost use Rattle.ls_console.specs.View.Readers.{unread};
 ghost use Rattle.ls_frame.specs.View.Devices.{wrapped};
 ghost use Rattle.ls_archive.specs.View.Listed.{HasPassed};
@@ -215,7 +214,7 @@ fn columns(line: &str) -> Option<(u64, u64)> {
 
 /// Passes over the first lines of an index, over any reader; none if there can't be so many.
 fn pass_lent<I: Feed>(alloc: Global, index: &mut I, count: u64) -> Result<u64, ListedFault>
-    ensures passed { IfOk result (λ offset. count ≤ most_frames → HasPassed (I.remaining index.old) (I.remaining index.new) count offset) }
+    ensures passed { IfOk result (HasPassed (I.remaining index.old) (I.remaining index.new) count) }
 {
     if count > MOST_FRAMES {
         return Err(ListedFault::TooFew(0));
