@@ -35,6 +35,7 @@
 mod archive;
 mod asked;
 mod cause;
+mod each;
 mod films;
 mod indexing;
 mod playing;
@@ -43,6 +44,7 @@ mod replaying;
 mod strict;
 
 pub use archive::{check_recording, index, verify_files};
+pub use each::{check_each, verify_pairs};
 pub use films::{code, code_with_index, list};
 pub use playing::{show, show_whole};
 pub use replaying::replay_file;
