@@ -98,7 +98,7 @@ where
 }
 
 /// Writes the index of a recording to any output, which isn't flushed.
-fn index_through<R, O, L, E>(program: Program<'_, R, O, L, E>, file: &str, sums: bool) -> u8
+pub fn index_through<R, O, L, E>(program: Program<'_, R, O, L, E>, file: &str, sums: bool) -> u8
 where
     R: AllocGlobal,
     O: Opens + Copy + Drop,
@@ -742,7 +742,9 @@ impl<'l, L: Outlet> Report<'l, L> {
                 self.write_of_frame(format_args!("frame {number}: at {stands}, not {place}"))
             }
             None => {
-                self.write_of_frame(format_args!("frame {number}: {damage}: {count} bytes at {place}"))
+                self.write_of_frame(format_args!(
+                    "frame {number}: {damage}: {count} bytes at {place}"
+                ))
             }
         }
     }
