@@ -32,7 +32,7 @@ where
     let mut status = DONE;
     for file in files {
         let own = match index_name(rt.alloc(), file) {
-            Ok(name) => index_into(rt, opener, file, &name, sums, console),
+            Ok(name) => index_into(rt, opener, file, name, sums, console),
             Err(AllocError) => no_memory(console),
         };
         status = worse(status, own);
@@ -45,7 +45,7 @@ fn index_into<R, O, E>(
     rt: &R,
     opener: O,
     file: &str,
-    path: &str,
+    path: String,
     sums: bool,
     console: &mut Console<E>,
 ) -> u8

@@ -1,5 +1,5 @@
 //! A file that gets its name once it is whole and on the disk.
-ghost use Rattle.std.specs.Prelude.{◌≡◌, ◌++◌, IfOk, IfErr, codes, string_bytes};
+ghost use Rattle.std.specs.Prelude.{◌≡◌, ◌⊎◌, IfErr};
 
 use ls_console::{Console, DONE, FAILED, MadeFile, Shown, make_file, say_unmade, say_unsynced};
 use ls_files::{Keeper, Makes, Place, Target};
@@ -13,16 +13,14 @@ const PART: &str = ".part";
 
 /// The names of a file that is to be made: its own, and the one that it has until it is whole.
 #[derive(Drop)]
-pub struct Draft<'a> {
-    path: &'a str,
+pub struct Draft {
+    path: String,
     part: String,
 }
 
-impl<'a> Draft<'a> {
+impl Draft {
     /// The names of the file at this path.
-    pub fn new(alloc: Global, path: &'a str) -> Result<Draft<'a>, AllocError>
-        ensures { IfOk result (λ draft. string_bytes draft.part ≡ path.now ++ codes ".part") }
-    {
+    pub fn new(alloc: Global, path: String) -> Result<Draft, AllocError> {
         let part = format!(in alloc; "{path}{PART}")?;
         Ok(Draft { path, part })
     }
@@ -39,11 +37,10 @@ impl<'a> Draft<'a> {
         R: AllocGlobal + Files,
         O: Makes + Copy + Drop,
         E: Outlet,
-        ensures path { IfOk result (λ made. made.target.path.now ≡ string_bytes self.now.part) }
-        ensures status { IfErr result (λ status. status ≡ FAILED) }
+        ensures { IfErr result (λ status. status ≡ FAILED) }
     {
-        let part = self.part.as_str();
-        if !(is_free(&opener, self.path, console) && is_free(&opener, part, console)) {
+        let (path, part) = (self.path.as_str(), self.part.as_str());
+        if !(is_free(&opener, path, console) && is_free(&opener, part, console)) {
             return Err(FAILED);
         }
         match Keeper::claim(rt.alloc(), opener, &Place::of(rt, part), None, false) {
@@ -73,19 +70,19 @@ impl<'a> Draft<'a> {
             return status;
         }
         if let Err(fault) = keeper.sync() {
-            say_unsynced(self.path, target, Failed::from(fault), console);
+            say_unsynced(&self.path, target, Failed::from(fault), console);
             let _refused = opener.remove(&self.part);
             return FAILED;
         }
         if let Err(fault) = self.rename(opener) {
-            say_unnamed(self.path, &fault, console);
+            say_unnamed(&self.path, &fault, console);
             let _refused = opener.remove(&self.part);
             return FAILED;
         }
         // Its folder has to be brought onto the disk once more, with the new name.
         if let Err(fault) = keeper.sync() {
-            say_unsynced(self.path, target, Failed::from(fault), console);
-            let _refused = opener.remove(self.path);
+            say_unsynced(&self.path, target, Failed::from(fault), console);
+            let _refused = opener.remove(&self.path);
             return FAILED;
         }
         DONE
@@ -94,11 +91,11 @@ impl<'a> Draft<'a> {
     /// Gives the file its name. An empty file takes the name first, so that no file which has come meanwhile is
     /// replaced: then fails with `AlreadyExists`.
     fn rename<O: Makes + Drop>(&self, opener: O) -> io::Result<()> {
-        let _taken = opener.create_new(self.path)?;
-        match opener.rename(&self.part, self.path) {
+        let _taken = opener.create_new(&self.path)?;
+        match opener.rename(&self.part, &self.path) {
             Ok(()) => Ok(()),
             Err(fault) => {
-                let _left = opener.remove(self.path);
+                let _left = opener.remove(&self.path);
                 Err(fault)
             }
         }

@@ -154,15 +154,49 @@ where
             output: &mut *output,
             console: &mut *console,
         };
-        let same = verify_files(own, film, recording, workers, strict);
-        if same == DONE && pairs.len() > 1 {
-            if say_same(rt.alloc(), recording, output, console) != DONE {
-                return FAILED;
-            }
+        let own = verify_one(own, film, recording, workers, strict, pairs.len() > 1);
+        status = worse(status, own);
+        if Outlet::failures(output) > 0 {
+            return FAILED;
         }
-        status = worse(status, same);
     }
     status
+}
+
+/// Compares a film with its recording, and says it on standard output if they are in order and `is_named`.
+fn verify_one<R, O, W, E>(
+    program: Program<'_, R, O, W, E>,
+    film: &str,
+    recording: &str,
+    workers: u8,
+    strict: bool,
+    is_named: bool,
+) -> u8
+where
+    R: AllocGlobal + Files + Threads + Sync,
+    O: Opens + Copy + Drop,
+    W: Write,
+    E: Outlet,
+    ensures status { DoneOrFailed result }
+    ensures of_film { result ≡ DONE → IsOfFilm O.holds program.entry.opener strict film.now recording.now }
+{
+    let Program {
+        rt,
+        opener,
+        output,
+        console,
+    } = program;
+    let own = Program {
+        rt,
+        opener,
+        output: &mut *output,
+        console: &mut *console,
+    };
+    let status = verify_files(own, film, recording, workers, strict);
+    if status != DONE || !is_named {
+        return status;
+    }
+    say_same(rt.alloc(), recording, output, console)
 }
 
 /// Says that a recording has the frames of its film, and returns the status.

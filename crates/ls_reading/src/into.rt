@@ -1,5 +1,5 @@
 //! The command `play --into`: plays recordings into a folder, each to a film of its own.
-ghost use Rattle.std.specs.Prelude.{◌≡◌, All, IfErr};
+ghost use Rattle.std.specs.Prelude.{◌≡◌, ◌⊎◌, All, IfErr};
 ghost use Rattle.ls_reading.specs.View.Each.{IsPlayed};
 ghost use Rattle.ls_reading.specs.View.Statuses.{DoneOrFailed, DoneFailedOrUsage};
 
@@ -7,7 +7,7 @@ use crate::draft::Draft;
 use crate::each::worse;
 use crate::indexing::say_twice;
 use crate::playing::show;
-use ls_console::{Console, DONE, Host, MadeFile, Program, USAGE, no_memory};
+use ls_console::{Console, DONE, FAILED, Host, MadeFile, Program, USAGE, no_memory};
 use ls_files::Makes;
 use ls_files::identity::last_part;
 use ls_film::Part;
@@ -46,7 +46,7 @@ where
     let mut status = DONE;
     for file in files {
         let own = match film_name(rt.alloc(), file, into) {
-            Ok(name) => show_to(rt, opener, file, &name, part, workers, console),
+            Ok(name) => show_to(rt, opener, file, name, part, workers, console),
             Err(AllocError) => no_memory(console),
         };
         status = worse(status, own);
@@ -59,7 +59,7 @@ fn show_to<R, O, E>(
     rt: &R,
     opener: O,
     file: &str,
-    path: &str,
+    path: String,
     part: Option<Part>,
     workers: u8,
     console: &mut Console<E>,
@@ -97,7 +97,7 @@ fn refuse_twice<E: Outlet>(
     into: &str,
     console: &mut Console<E>,
 ) -> Result<(), u8>
-    ensures { IfErr result DoneFailedOrUsage }
+    ensures { IfErr result (λ status. (status ≡ FAILED) ⊎ (status ≡ USAGE)) }
 {
     let Ok(names) = film_names(alloc, files, into) else {
         return Err(no_memory(console));
