@@ -16,11 +16,11 @@ _jlsrec() {
         options+=' --workers --queue --window --preset --into --replace --progress --report --index'
         options+=' --count --for --keep-open --sync'
         ;;
-    play) options+=' --frames --salvage --index --workers' ;;
+    play) options+=' --into --frames --salvage --index --workers' ;;
     verify) options+=' --workers --strict' ;;
-    index) options+=' --no-sums' ;;
+    index) options+=' --beside --no-sums' ;;
     code) options+=' --index' ;;
-    check) options+=' --index --workers --strict' ;;
+    check) options+=' --index --beside --workers --strict' ;;
     replay) options+=' --sources --capacity' ;;
     esac
     case $before in

@@ -8,8 +8,8 @@ use ls_files::{Locks, Makes};
 use ls_film::Part;
 use ls_frame::{Counted, Outlet, keep_blocks};
 use ls_reading::{
-    check_recording, code, code_with_index, index, list, replay_file, show, show_listed, show_whole,
-    verify_files,
+    check_each, check_recording, code, code_with_index, index, index_beside, list, replay_file,
+    show, show_into, show_listed, show_whole, verify_pairs,
 };
 use ls_recording::record_films;
 use std::alloc::{AllocError, Global};
@@ -84,20 +84,32 @@ where
                     index,
                     frames,
                 } => show_listed(program, file, index, part_of(frames)),
+                Request::PlayInto {
+                    files,
+                    into,
+                    frames,
+                    workers,
+                } => show_into(program, &files, into, frames.map(part_of), workers),
                 Request::Salvage { file, index } => show_whole(program, file, index),
                 Request::Index { file, sums } => index(program, file, sums),
+                Request::IndexBeside { files, sums } => index_beside(program, &files, sums),
                 Request::Check {
                     file,
                     index,
                     workers,
                     strict,
                 } => check_recording(program, file, index, workers, strict),
-                Request::Verify {
-                    film,
-                    recording,
+                Request::CheckEach {
+                    files,
+                    beside,
                     workers,
                     strict,
-                } => verify_files(program, film, recording, workers, strict),
+                } => check_each(program, &files, beside, workers, strict),
+                Request::Verify {
+                    pairs,
+                    workers,
+                    strict,
+                } => verify_pairs(program, &pairs, workers, strict),
                 Request::Record(asked) => record_films(program, asked),
                 Request::Replay {
                     sources,

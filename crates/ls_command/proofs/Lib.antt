@@ -1,4 +1,5 @@
 pub mod FramesLemmas
 pub mod MatchLemmas
 pub mod NumberLemmas
+pub mod PairLemmas
 pub mod PresetLemmas

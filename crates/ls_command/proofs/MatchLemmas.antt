@@ -60,8 +60,11 @@ recording_asked words tuning files preset text reads named few (Some (request.Li
 recording_asked words tuning files preset text reads named few (Some (request.Code file index)) has = absurd has
 recording_asked words tuning files preset text reads named few (Some (request.Play file frames workers)) has = absurd has
 recording_asked words tuning files preset text reads named few (Some (request.Listed file index frames)) has = absurd has
+recording_asked words tuning files preset text reads named few (Some (request.PlayInto recordings into frames workers)) has = absurd has
 recording_asked words tuning files preset text reads named few (Some (request.Salvage file index)) has = absurd has
 recording_asked words tuning files preset text reads named few (Some (request.Index file sums)) has = absurd has
+recording_asked words tuning files preset text reads named few (Some (request.IndexBeside recordings sums)) has = absurd has
 recording_asked words tuning files preset text reads named few (Some (request.Check file index workers strict)) has = absurd has
-recording_asked words tuning files preset text reads named few (Some (request.Verify film recording workers strict)) has = absurd has
+recording_asked words tuning files preset text reads named few (Some (request.CheckEach recordings beside workers strict)) has = absurd has
+recording_asked words tuning files preset text reads named few (Some (request.Verify pairs workers strict)) has = absurd has
 recording_asked words tuning files preset text reads named few (Some (request.Replay sources capacity file)) has = absurd has

@@ -1,13 +1,13 @@
 //! The table of commands and options, and how `clap` is given them.
 use crate::limits::{CAPACITY, COUNT, QUEUE, SECONDS, SOURCES, SYNC, WINDOW, WORKERS};
 use crate::texts::{
-    CAPACITY_HELP, CHECK_HELP, CHECKERS_HELP, CODE_HELP, COUNT_HELP, FILM_HELP, FILMS_HELP,
-    FRAMES_HELP, INDEX_FILE_HELP, INDEX_HELP, INDEX_OF_CODE_HELP, INDEX_OF_RECORDING_HELP,
-    INDEX_OF_SALVAGE_HELP, INTO_HELP, KEEP_OPEN_HELP, LIST_HELP, NO_SUMS_HELP, PLAY_HELP,
-    PLAYERS_HELP, PRESET_HELP, PROGRESS_HELP, QUEUE_HELP, REASONS_HELP, RECORD_HELP,
-    RECORDING_HELP, REPLACE_HELP, REPLAY_HELP, REPORT_HELP, SALVAGE_HELP, SECONDS_HELP,
-    SOURCES_HELP, STEPS_HELP, STRICT_HELP, SYNC_HELP, VERIFIERS_HELP, VERIFY_HELP, WINDOW_HELP,
-    WORKERS_HELP,
+    CAPACITY_HELP, CHECK_BESIDE_HELP, CHECK_HELP, CHECKERS_HELP, CODE_HELP, COUNT_HELP, FILM_HELP,
+    FILMS_HELP, FILMS_INTO_HELP, FRAMES_HELP, INDEX_BESIDE_HELP, INDEX_FILE_HELP, INDEX_HELP,
+    INDEX_OF_CODE_HELP, INDEX_OF_RECORDING_HELP, INDEX_OF_SALVAGE_HELP, INTO_HELP, KEEP_OPEN_HELP,
+    LIST_HELP, NO_SUMS_HELP, PLAY_HELP, PLAYERS_HELP, PRESET_HELP, PROGRESS_HELP, QUEUE_HELP,
+    REASONS_HELP, RECORD_HELP, RECORDING_OF_FILM_HELP, RECORDINGS_HELP, REPLACE_HELP, REPLAY_HELP,
+    REPORT_HELP, SALVAGE_HELP, SECONDS_HELP, SOURCES_HELP, STEPS_HELP, STRICT_HELP, SYNC_HELP,
+    VERIFIERS_HELP, VERIFY_HELP, WINDOW_HELP, WORKERS_HELP,
 };
 use clap::builder::ValueParser;
 use clap::{Arg, ArgAction, Command};
@@ -70,11 +70,12 @@ const COMMANDS: [Entry; 8] = [
     },
     Entry {
         name: "play",
-        about: "Plays a recording",
+        about: "Plays recordings",
         help: PLAY_HELP,
         arguments: &[
             REASONS,
-            Argument::File("FILE", RECORDING_HELP),
+            Argument::Files("FILE", RECORDINGS_HELP),
+            Argument::Text("into", "FOLDER", FILMS_INTO_HELP),
             Argument::Text("frames", "A..B", FRAMES_HELP),
             Argument::Flag("salvage", SALVAGE_HELP),
             Argument::Text("index", "INDEX", INDEX_OF_SALVAGE_HELP),
@@ -99,36 +100,38 @@ const COMMANDS: [Entry; 8] = [
     },
     Entry {
         name: "index",
-        about: "Lists the codestreams of a recording",
+        about: "Lists the codestreams of recordings",
         help: INDEX_HELP,
         arguments: &[
             REASONS,
-            Argument::File("FILE", RECORDING_HELP),
+            Argument::Files("FILE", RECORDINGS_HELP),
+            Argument::Flag("beside", INDEX_BESIDE_HELP),
             Argument::Flag("no-sums", NO_SUMS_HELP),
         ],
     },
     Entry {
         name: "check",
-        about: "Reports what is damaged in a recording",
+        about: "Reports what is damaged in recordings",
         help: CHECK_HELP,
         arguments: &[
             REASONS,
-            Argument::File("FILE", RECORDING_HELP),
+            Argument::Files("FILE", RECORDINGS_HELP),
             Argument::Text("index", "INDEX", INDEX_FILE_HELP),
+            Argument::Flag("beside", CHECK_BESIDE_HELP),
             Argument::Number("workers", WORKERS, "1", CHECKERS_HELP),
             Argument::Flag("strict", STRICT_HELP),
         ],
     },
     Entry {
         name: "verify",
-        about: "Compares a recording with a film",
+        about: "Compares recordings with films",
         help: VERIFY_HELP,
         arguments: &[
             REASONS,
             Argument::Number("workers", WORKERS, "1", VERIFIERS_HELP),
             Argument::Flag("strict", STRICT_HELP),
             Argument::File("FILM", FILM_HELP),
-            Argument::File("FILE", RECORDING_HELP),
+            Argument::Files("FILE", RECORDING_OF_FILM_HELP),
         ],
     },
     Entry {

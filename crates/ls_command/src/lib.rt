@@ -25,8 +25,8 @@ mod limits;
 mod preset;
 mod texts;
 
-ghost use Rattle.std.specs.Prelude.{◌≡◌, ◌^◌, true, None, IfOk, IfSome, codes, map, string_bytes};
-ghost use Rattle.ls_command.specs.View.Matched.{Asks, AsksFrames, AsksToRecord, AsksWorkers, AreMatched, MakesRequest, ReadsNumber, WordsMakeRequest, files_in, texts_of};
+ghost use Rattle.std.specs.Prelude.{◌≡◌, ◌^◌, ◌∷◌, [], true, None, IfOk, IfSome, codes, map, string_bytes};
+ghost use Rattle.ls_command.specs.View.Matched.{Asks, AsksFrames, AsksToRecord, AsksWorkers, AreMatched, ArePairsOf, MakesRequest, ReadsNumber, WordsMakeRequest, files_in, texts_in_turn, texts_of};
 
 use clap::error::ErrorKind;
 use clap::{ArgMatches, Command, Error};
@@ -38,11 +38,12 @@ use ls_frame::Tuning;
 use preset::tuning_of;
 use std::alloc::{AllocError, Global};
 use texts::{
-    BAD_PRESET, BEGINNING, CHECKERS_WANTED, COMMAND_WANTED, FRAMES_OR_SALVAGE, FRAMES_WANTED,
+    BAD_PRESET, BEGINNING, BESIDE_WANTED, CHECKERS_WANTED, COMMAND_WANTED, FRAMES_OR_SALVAGE,
+    FRAMES_WANTED, INDEX_OF_ONE, INDEX_OR_BESIDE, INTO_OR_INDEX, INTO_OR_SALVAGE, INTO_WANTED, PAIRS_WANTED,
     PLAYERS_WANTED, SALVAGE_WANTED, TOO_MANY_FILMS,
 };
 
-/// A request, one variant for each command, but three for `play`.
+/// A request, one variant for each command; but `play` has four, and `index` and `check` two each.
 #[derive(Drop)]
 pub enum Request<'a> {
     /// List the frames of a film.
@@ -67,6 +68,15 @@ pub enum Request<'a> {
         index: &'a str,
         frames: Frames,
     },
+    /// Play recordings into a folder: all frames of each, or some.
+    PlayInto {
+        files: Vec<&'a str>,
+        /// The folder for the films.
+        into: &'a str,
+        frames: Option<Frames>,
+        /// The number of workers that decode; one if only some frames are played.
+        workers: u8,
+    },
     /// Play the intact frames of a recording, past damage.
     Salvage {
         file: &'a str,
@@ -78,6 +88,11 @@ pub enum Request<'a> {
         file: &'a str,
         sums: bool,
     },
+    /// Write an index of each recording to a file beside it, with sums or without.
+    IndexBeside {
+        files: Vec<&'a str>,
+        sums: bool,
+    },
     /// Look for damage in a recording, by itself or by its index.
     Check {
         file: &'a str,
@@ -87,13 +102,23 @@ pub enum Request<'a> {
         /// Whether its codestreams must be strict, too.
         strict: bool,
     },
-    /// Compare a recording with a film.
+    /// Look for damage in each of several recordings; or in one, by the index beside it.
+    CheckEach {
+        files: Vec<&'a str>,
+        /// Whether each is checked by the index beside it, else by itself.
+        beside: bool,
+        /// The number of workers that decode; one without an index.
+        workers: u8,
+        /// Whether their codestreams must be strict, too.
+        strict: bool,
+    },
+    /// Compare recordings with their films.
     Verify {
-        film: &'a str,
-        recording: &'a str,
+        /// Each film, with its recording.
+        pairs: Vec<(&'a str, &'a str)>,
         /// The number of workers that decode.
         workers: u8,
-        /// Whether the recording's codestreams must be strict, too.
+        /// Whether the codestreams of the recordings must be strict, too.
         strict: bool,
     },
     /// Record films, side by side.
@@ -275,9 +300,9 @@ fn request_of<'a>(
         "list" => Ok(list_request(words)),
         "code" => Ok(code_request(words)),
         "play" => play_request(alloc, words),
-        "index" => Ok(index_request(words)),
+        "index" => index_request(alloc, words),
         "check" => check_request(alloc, words),
-        "verify" => Ok(verify_request(words)),
+        "verify" => verify_request(alloc, words),
         "replay" => Ok(replay_request(words)),
         _ => Ok(None),
     }
@@ -306,15 +331,16 @@ fn code_request<'a>(words: &ArgMatches<'a>) -> Option<Request<'a>>
 fn play_request<'a>(alloc: Global, words: &ArgMatches<'a>) -> Result<Option<Request<'a>>, Error>
     ensures { IfOk result (λ request. IfSome request (Asks words.now (codes "play"))) }
 {
-    match read_play(words) {
-        Ok(request) => Ok(request),
-        Err(message) => Err(usage_fault(command_named(alloc, "play"), message)),
+    let files = files_of(alloc, words)?;
+    match read_play(words, files) {
+        Ok(request) => Ok(Some(request)),
+        Err(message) => Err(misuse_of(alloc, "play", message)),
     }
 }
 
-/// The same, or the message that says what is wrong.
-fn read_play<'a>(words: &ArgMatches<'a>) -> Result<Option<Request<'a>>, &'static str>
-    ensures { IfOk result (λ request. IfSome request (Asks words.now (codes "play"))) }
+/// The same of the recordings that are named, or the message that says what is wrong.
+fn read_play<'a>(words: &ArgMatches<'a>, files: Vec<&'a str>) -> Result<Request<'a>, &'static str>
+    ensures { texts_of files.entry.items ≡ files_in words.now → IfOk result (Asks words.now (codes "play")) }
 {
     let salvage = words.get_flag("salvage");
     let frames = frames_of(words, salvage)?;
@@ -326,23 +352,47 @@ fn read_play<'a>(words: &ArgMatches<'a>) -> Result<Option<Request<'a>>, &'static
     if workers > 1 && (frames.is_some() || salvage) {
         return Err(PLAYERS_WANTED);
     }
-    let Some(file) = words.get_str("FILE") else {
-        return Ok(None);
+    if let Some(into) = words.get_str("into") {
+        if salvage {
+            return Err(INTO_OR_SALVAGE);
+        }
+        if index.is_some() {
+            return Err(INTO_OR_INDEX);
+        }
+        return Ok(Request::PlayInto {
+            files,
+            into,
+            frames,
+            workers,
+        });
+    }
+    let Some(file) = only(&files) else {
+        return Err(INTO_WANTED);
     };
     if salvage {
-        return Ok(Some(Request::Salvage { file, index }));
+        return Ok(Request::Salvage { file, index });
     }
     match (frames, index) {
-        (Some(frames), Some(index)) => Ok(Some(Request::Listed {
+        (Some(frames), Some(index)) => Ok(Request::Listed {
             file,
             index,
             frames,
-        })),
-        _ => Ok(Some(Request::Play {
+        }),
+        _ => Ok(Request::Play {
             file,
             frames,
             workers,
-        })),
+        }),
+    }
+}
+
+/// The file, if one is named and no more.
+fn only<'a>(files: &[&'a str]) -> Option<&'a str>
+    ensures { IfSome result (λ file. texts_of files.now ≡ file.now ∷ []) }
+{
+    match files.split_first() {
+        Some((file, rest)) if rest.is_empty() => Some(*file),
+        _ => None,
     }
 }
 
@@ -362,33 +412,60 @@ fn frames_of(words: &ArgMatches<'_>, salvage: bool) -> Result<Option<Frames>, &'
 }
 
 /// The request of `index`, from its matched words.
-fn index_request<'a>(words: &ArgMatches<'a>) -> Option<Request<'a>>
-    ensures { IfSome result (Asks words.now (codes "index")) }
+fn index_request<'a>(alloc: Global, words: &ArgMatches<'a>) -> Result<Option<Request<'a>>, Error>
+    ensures { IfOk result (λ request. IfSome request (Asks words.now (codes "index"))) }
 {
-    Some(Request::Index {
-        file: words.get_str("FILE")?,
-        sums: !words.get_flag("no-sums"),
-    })
+    let files = files_of(alloc, words)?;
+    let sums = !words.get_flag("no-sums");
+    if words.get_flag("beside") {
+        return Ok(Some(Request::IndexBeside { files, sums }));
+    }
+    match only(&files) {
+        Some(file) => Ok(Some(Request::Index { file, sums })),
+        None => Err(misuse_of(alloc, "index", BESIDE_WANTED)),
+    }
 }
 
 /// The request of `check`, from its matched words.
 fn check_request<'a>(alloc: Global, words: &ArgMatches<'a>) -> Result<Option<Request<'a>>, Error>
     ensures { IfOk result (λ request. IfSome request (Asks words.now (codes "check"))) }
 {
-    let index = words.get_str("index");
-    let workers = workers_of(words);
-    if workers > 1 && index.is_none() {
-        return Err(usage_fault(command_named(alloc, "check"), CHECKERS_WANTED));
+    let files = files_of(alloc, words)?;
+    match read_check(words, files) {
+        Ok(request) => Ok(Some(request)),
+        Err(message) => Err(misuse_of(alloc, "check", message)),
     }
-    let Some(file) = words.get_str("FILE") else {
-        return Ok(None);
-    };
-    Ok(Some(Request::Check {
-        file,
-        index,
-        workers,
-        strict: words.get_flag("strict"),
-    }))
+}
+
+/// The same of the recordings that are named, or the message that says what is wrong.
+fn read_check<'a>(words: &ArgMatches<'a>, files: Vec<&'a str>) -> Result<Request<'a>, &'static str>
+    ensures { texts_of files.entry.items ≡ files_in words.now → IfOk result (Asks words.now (codes "check")) }
+{
+    let index = words.get_str("index");
+    let beside = words.get_flag("beside");
+    if index.is_some() && beside {
+        return Err(INDEX_OR_BESIDE);
+    }
+    let workers = workers_of(words);
+    if workers > 1 && index.is_none() && !beside {
+        return Err(CHECKERS_WANTED);
+    }
+    let strict = words.get_flag("strict");
+    match only(&files) {
+        Some(file) if !beside => Ok(Request::Check {
+            file,
+            index,
+            workers,
+            strict,
+        }),
+        _ if index.is_some() => Err(INDEX_OF_ONE),
+        _ => Ok(Request::CheckEach {
+            files,
+            beside,
+            workers,
+            strict,
+        }),
+    }
 }
 
 /// The number of workers, from the matched words.
@@ -399,15 +476,57 @@ fn workers_of(words: &ArgMatches<'_>) -> u8
 }
 
 /// The request of `verify`, from its matched words.
-fn verify_request<'a>(words: &ArgMatches<'a>) -> Option<Request<'a>>
-    ensures { IfSome result (Asks words.now (codes "verify")) }
+fn verify_request<'a>(alloc: Global, words: &ArgMatches<'a>) -> Result<Option<Request<'a>>, Error>
+    ensures { IfOk result (λ request. IfSome request (Asks words.now (codes "verify"))) }
+{
+    let Some(film) = words.get_str("FILM") else {
+        return Ok(None);
+    };
+    let files = files_of(alloc, words)?;
+    match pairs_of(alloc, film, &files)? {
+        Some(pairs) => Ok(verify_pairs_request(words, pairs)),
+        None => Err(misuse_of(alloc, "verify", PAIRS_WANTED)),
+    }
+}
+
+/// The request of `verify`, with these films and recordings.
+fn verify_pairs_request<'a>(
+    words: &ArgMatches<'a>,
+    pairs: Vec<(&'a str, &'a str)>,
+) -> Option<Request<'a>>
+    ensures { ArePairsOf words.now pairs.entry.items → IfSome result (Asks words.now (codes "verify")) }
 {
     Some(Request::Verify {
-        film: words.get_str("FILM")?,
-        recording: words.get_str("FILE")?,
+        pairs,
         workers: words.get_one("workers")?,
         strict: words.get_flag("strict"),
     })
+}
+
+/// The films and recordings in a list of both in turn, which goes on after the film `first`; none if the last film has
+/// no recording.
+fn pairs_of<'a>(
+    alloc: Global,
+    first: &'a str,
+    files: &[&'a str],
+) -> Result<Option<Vec<(&'a str, &'a str)>>, AllocError>
+    ensures { IfOk result (λ pairs. IfSome pairs (λ pairs. texts_in_turn pairs.items ≡ first.now ∷ texts_of files.now)) }
+{
+    let mut pairs = Vec::new(alloc);
+    let mut film = Some(first);
+    for file in files {
+        film = match film {
+            Some(own) => {
+                pairs.push((own, *file))?;
+                None
+            }
+            None => Some(*file),
+        };
+    }
+    match film {
+        Some(_) => Ok(None),
+        None => Ok(Some(pairs)),
+    }
 }
 
 /// The request of `record`, from its matched words.
@@ -417,7 +536,7 @@ fn record_request<'a>(alloc: Global, words: &ArgMatches<'a>) -> Result<Option<Re
     let Some(tuning) = tuning_of(words.get_str("preset")) else {
         return Err(Refusal::Limit(BAD_PRESET));
     };
-    let files = match films_of(alloc, words) {
+    let files = match files_of(alloc, words) {
         Ok(files) => files,
         Err(refused) => return Err(Refusal::Clap(Error::from(refused))),
     };
@@ -427,8 +546,8 @@ fn record_request<'a>(alloc: Global, words: &ArgMatches<'a>) -> Result<Option<Re
     Ok(recording_of(words, tuning, files))
 }
 
-/// The films that are named.
-fn films_of<'a>(alloc: Global, words: &ArgMatches<'a>) -> Result<Vec<&'a str>, AllocError>
+/// The files that are named.
+fn files_of<'a>(alloc: Global, words: &ArgMatches<'a>) -> Result<Vec<&'a str>, AllocError>
     ensures { IfOk result (λ files. texts_of files.items ≡ files_in words.now) }
 {
     match words.get_strs("FILE") {
@@ -492,6 +611,11 @@ fn replay_request<'a>(words: &ArgMatches<'a>) -> Option<Request<'a>>
 /// kind `OutOfMemory`.
 fn usage_fault(used: Result<Command<'_>, AllocError>, message: &str) -> Error {
     fault_of_kind(ErrorKind::InvalidValue, used, message)
+}
+
+/// A usage fault of the command of this name.
+fn misuse_of(alloc: Global, name: &str, message: &str) -> Error {
+    usage_fault(command_named(alloc, name), message)
 }
 
 /// The same, of any kind.

@@ -44,7 +44,8 @@ maxvals conform to T.87 nevertheless. If one of these tools is to read them, fir
 to such a maxval, as with Netpbm's pamdepth.";
 
 pub const PLAY_HELP: &str = "\
-Writes the frames of the recording FILE to standard output, each as a binary Netpbm image, PGM or PPM.
+Writes the frames of the recording FILE to standard output, each as a binary Netpbm image, PGM or PPM; or the frames of
+each FILE to a film of its own in a folder (--into).
 
 FILE is codestreams of JPEG-LS (ITU-T T.87) joined with nothing between, as `code` writes them. So are the
 images, and each is written before the next codestream is read. If a codestream can't be decoded, the images
@@ -81,6 +82,17 @@ With --salvage INDEX must have sums: gaps are then reported by the recorded numb
 error reports each range of recorded frames that weren't played
   FILE: frame N is lost
 or `frames N to M are lost`. FILE can't be a pipe";
+
+pub const FILMS_INTO_HELP: &str = "\
+The folder for the films, which are named after the last parts of their FILEs without .jls; a name without that ending
+gets .pnm added. A film has the name NAME.part until it is whole and on the disk. An existing film isn't replaced, and
+a film that can't be written whole is removed: either is a fault of its FILE, and the others go on";
+
+pub const INTO_OR_SALVAGE: &str = "--into and --salvage don't go together";
+
+pub const INTO_OR_INDEX: &str = "--into and --index don't go together";
+
+pub const INTO_WANTED: &str = "several FILEs go only with --into";
 
 pub const FRAMES_OR_SALVAGE: &str = "--frames and --salvage don't go together";
 
@@ -122,6 +134,12 @@ pub const INDEX_OF_RECORDING_HELP: &str = "\
 Also write an index of each FILE.jls, FILE.jls.index, as `index` writes it: the line of each codestream, once the
 codestream is written. If an index can't be created, nothing is recorded; if one fails later, its recording goes on";
 
+pub const INDEX_BESIDE_HELP: &str = "\
+Write the index of each FILE to FILE.index instead of standard output. It has the name FILE.index.part until it is whole
+and on the disk. An existing FILE.index isn't replaced, which is a fault of its FILE; the others go on";
+
+pub const BESIDE_WANTED: &str = "several FILEs go only with --beside";
+
 pub const NO_SUMS_HELP: &str = "\
 Omit the sum, which is faster; by such an index `check` doesn't find a changed bit that decodes as another sample";
 
@@ -137,17 +155,28 @@ and at the end
 By its sum in the index a codestream is also found elsewhere in FILE, unless that is a pipe: `at P, not O` reports it,
 and such codestreams are counted separately, `, K moved`. The status is 0 if nothing but the last line was written, else
 1. JPEG-LS has no checksums, so a bit that has changed may decode as other samples: only an index with sums shows that,
-or `verify` with the film.";
+or `verify` with the film.
+
+With several FILEs each line begins with `FILE: `, and the status is 0 only if it is for each of them. A FILE that can't
+be read or is damaged keeps none of the others from being checked.";
 
 pub const INDEX_FILE_HELP: &str = "\
 The recording's index, as `index` wrote it: each codestream must be at its recorded place and, if the index has sums,
 unchanged";
 
+pub const CHECK_BESIDE_HELP: &str = "\
+Check each FILE by the index beside it, FILE.index, as `record --index` and `index --beside` write it; a FILE without
+one is at fault";
+
+pub const INDEX_OR_BESIDE: &str = "--index and --beside don't go together";
+
+pub const INDEX_OF_ONE: &str = "--index goes only with one FILE; --beside goes with several";
+
 pub const CHECKERS_HELP: &str = "\
 The number of workers that decode by an index, 1 to 16. With 2 or more, twice as many codestreams are read at once, and
 their lines are written in order once all of them are checked";
 
-pub const CHECKERS_WANTED: &str = "--workers goes only with --index";
+pub const CHECKERS_WANTED: &str = "--workers goes only with --index or --beside";
 
 pub const STRICT_HELP: &str = "\
 If nothing else is wrong, also look whether each codestream of FILE is strict: whether the data of its scans are exactly
@@ -161,7 +190,13 @@ Compares the frames of FILE, a recording, with those of FILM, frame by frame. Th
 same, each with its size, its maxval and all its samples, whatever the form of the headers on either side. Else it is 1,
 and a line on standard error reports the first frame that differs, is missing or is too many.
 
-  $ jlsrec verify film.pgm film.pgm.jls && echo the same";
+  $ jlsrec verify film.pgm film.pgm.jls && echo the same
+
+Further pairs FILM FILE may follow. A line on standard output then reports each pair that is the same
+  FILE: the same
+and the status is 0 only if all are. A pair that isn't keeps none of the others from being compared.";
+
+pub const PAIRS_WANTED: &str = "each FILM goes with a FILE: the last FILM has none";
 
 pub const VERIFIERS_HELP: &str = "\
 The number of workers that decode FILE, 1 to 16. With 2 or more, twice as many codestreams are read at once";
@@ -235,8 +270,12 @@ on a terminal this is always reported";
 pub const FILMS_HELP: &str =
     "The films to read, 1 to 16: binary Netpbm images (PGM, PPM) one after the other";
 
-pub const RECORDING_HELP: &str = "\
-The recording to read: lossless codestreams of JPEG-LS one after the other";
+pub const RECORDINGS_HELP: &str = "\
+The recordings to read: lossless codestreams of JPEG-LS one after the other";
+
+pub const RECORDING_OF_FILM_HELP: &str = "\
+The recording to read: lossless codestreams of JPEG-LS one after the other; further films may follow, each with its
+recording";
 
 pub const REPLAY_HELP: &str = "\
 Writes the replies of a bounded queue to the steps of FILE to standard output, a line a step.

@@ -1,13 +1,16 @@
 //! The commands that read.
 
-use crate::memory::{Memory, Named};
+use crate::memory::{Blank, Memory, Named};
 use crate::playing::{code_in_memory, play_in_memory, verify_in_memory};
 use crate::testing::{Answered, Want, check};
-use ls_console::{COLUMNS, Console, Program};
-use ls_files::Opens;
+use ls_console::{COLUMNS, Console, Host, Program};
+use ls_files::{Makes, Opens};
 use ls_film::Part;
 use ls_frame::{Counted, Outlet};
-use ls_reading::{check_recording, code, index, list, show, verify_files};
+use ls_reading::{
+    check_each, check_recording, code, index, index_beside, list, show, show_into, verify_files,
+    verify_pairs,
+};
 use ls_testing::films::{
     ANNEX_H, BLACK, FILM, FILM_CODESTREAMS, FILM_LINES, TWO_CODESTREAMS, TWO_IMAGES,
 };
@@ -25,7 +28,22 @@ enum Command<'a> {
     /// With sums or without.
     Index(&'a str, bool),
     Check(&'a str, Option<&'a str>, u8),
+    /// By the index beside each or without.
+    CheckEach(&'a [&'a str], bool, u8),
     Verify(&'a str, &'a str, u8),
+    VerifyPairs(&'a [Pair<'a>], u8),
+}
+
+/// A film and its recording.
+type Pair<'a> = (&'a str, &'a str);
+
+/// A command that makes files, and what it is asked for.
+#[derive(Clone, Copy)]
+enum Making<'a> {
+    /// With sums.
+    IndexBeside(&'a [&'a str]),
+    /// Into the folder `out`.
+    PlayInto(&'a [&'a str]),
 }
 
 /// The lines of `jlsrec index` for the codestreams of `FILM`, with sums and without. The sums are those of `sha256sum`.
@@ -80,6 +98,7 @@ const FILES: &[Named<'static>] = &[
     ("two", TWO_IMAGES),
     ("two.jls", TWO_CODESTREAMS),
     ("two.index", TWO_INDEX),
+    ("two.jls.index", TWO_INDEX),
     ("annex.jls", ANNEX_H),
     ("swapped.jls", SWAPPED),
     ("black", BLACK),
@@ -154,8 +173,46 @@ const CASES: &[(Command<'static>, Want)] = &[
             b"jlsrec: film.jls: only decoded: no index is named\n",
         ),
     ),
+    (
+        Command::CheckEach(&["film.jls", "nowhere", "swapped.jls"], false, 1),
+        (
+            1,
+            b"film.jls: 3 frames, 0 damaged\nswapped.jls: 2 frames, 0 damaged\n",
+            b"jlsrec: film.jls: only decoded: no index is named\n\
+jlsrec: nowhere: can't open\n\
+jlsrec: swapped.jls: only decoded: no index is named\n",
+        ),
+    ),
+    (
+        Command::CheckEach(&["film.jls", "two.jls"], true, 2),
+        (
+            1,
+            b"two.jls: 2 frames, 0 damaged\n",
+            b"jlsrec: film.jls.index: can't open\n",
+        ),
+    ),
+    (
+        Command::CheckEach(&["two.jls", "two.jls"], true, 1),
+        (
+            0,
+            b"two.jls: 2 frames, 0 damaged\ntwo.jls: 2 frames, 0 damaged\n",
+            b"",
+        ),
+    ),
     (Command::Verify("film", "film.jls", 1), (0, b"", b"")),
     (Command::Verify("film", "film.jls", 2), (0, b"", b"")),
+    (
+        Command::VerifyPairs(&[("film", "film.jls"), ("two", "two.jls")], 1),
+        (0, b"film.jls: the same\ntwo.jls: the same\n", b""),
+    ),
+    (
+        Command::VerifyPairs(&[("two", "swapped.jls"), ("film", "film.jls")], 2),
+        (
+            1,
+            b"film.jls: the same\n",
+            b"jlsrec: swapped.jls: frame 0 differs: samples\n",
+        ),
+    ),
     (
         Command::Verify("two", "swapped.jls", 1),
         (1, b"", b"jlsrec: swapped.jls: frame 0 differs: samples\n"),
@@ -186,7 +243,25 @@ where
         Command::Check(file, index, workers) => {
             check_recording(program, file, index, workers, false)
         }
+        Command::CheckEach(files, beside, workers) => {
+            check_each(program, files, beside, workers, false)
+        }
         Command::Verify(film, file, workers) => verify_files(program, film, file, workers, false),
+        Command::VerifyPairs(pairs, workers) => verify_pairs(program, pairs, workers, false),
+    }
+}
+
+/// Runs a command that makes files in memory.
+fn run_making<R, O, W, E>(program: Program<'_, R, O, W, E>, making: Making<'_>) -> u8
+where
+    R: Host + Threads + Sync,
+    O: Makes + Copy + Drop,
+    W: Write,
+    E: Outlet,
+{
+    match making {
+        Making::IndexBeside(files) => index_beside(program, files, true),
+        Making::PlayInto(files) => show_into(program, files, "out", None, 1),
     }
 }
 
@@ -207,6 +282,31 @@ where
         console: &mut console,
     };
     let status = run(program, command);
+    drop(console);
+    Answered {
+        status,
+        output: output.into_inner(),
+        errors: errors.into_inner(),
+    }
+}
+
+/// The answer of a command that makes files in memory.
+fn answer_making<R, O>(rt: &R, opener: O, making: Making<'_>) -> Answered
+where
+    R: Host + Threads + Sync,
+    O: Makes + Copy + Drop,
+{
+    let alloc = rt.alloc();
+    let mut output = Counted::new(Vec::new(alloc));
+    let mut errors = Counted::new(Vec::new(alloc));
+    let mut console = Console::new(alloc, &mut errors, false, COLUMNS);
+    let program = Program {
+        rt,
+        opener,
+        output: &mut output,
+        console: &mut console,
+    };
+    let status = run_making(program, making);
     drop(console);
     Answered {
         status,
@@ -247,6 +347,43 @@ fn check_films<R: AllocGlobal + Files + Threads + Sync + Abort>(rt: &R) {
     assert!(rt; are_same == [true, true, false]);
 }
 
+/// Checks a command that makes a file of one recording: what it answers, what it writes before the file has its name,
+/// and whether the file has that name in the end.
+fn check_made<R>(rt: &R, making: Making<'_>, path: &str, part: &str, want: Want, bytes: &[u8])
+where
+    R: Host + Threads + Sync + Abort,
+{
+    let (mut written, mut named) = (Vec::new(rt.alloc()), Vec::new(rt.alloc()));
+    let blanks = [Blank::new(part, &mut written), Blank::new(path, &mut named)];
+    let memory = Memory {
+        files: FILES,
+        blanks: &blanks,
+    };
+    check(rt, &answer_making(rt, memory, making), want);
+    let stand = [memory.look(path).is_ok(), memory.look(part).is_ok()];
+    drop(blanks);
+    let (status, ..) = want;
+    assert!(rt; stand == [status == 0, false]);
+    check_bytes(rt, Some(&written), Some(bytes));
+}
+
+/// Checks the commands that make files.
+fn check_making<R: Host + Threads + Sync + Abort>(rt: &R) {
+    let index = Making::IndexBeside(&["film.jls"]);
+    let (path, part) = ("film.jls.index", "film.jls.index.part");
+    check_made(rt, index, path, part, (0, b"", b""), FILM_INDEX);
+    let film = Making::PlayInto(&["film.jls"]);
+    check_made(rt, film, "out/film", "out/film.part", (0, b"", b""), FILM);
+    let torn = Making::PlayInto(&["torn.jls"]);
+    check_made(rt, torn, "out/torn", "out/torn.part", TORN_RECORDING, b"");
+    let there = Making::IndexBeside(&["two.jls"]);
+    let want: Want = (1, b"", b"jlsrec: two.jls.index: already exists\n");
+    check(rt, &answer_making(rt, readable(FILES), there), want);
+    let twice = Making::PlayInto(&["two.jls", "a/two.jls"]);
+    let want: Want = (2, b"", b"jlsrec: out/two: given twice\n");
+    check(rt, &answer_making(rt, readable(FILES), twice), want);
+}
+
 /// Checks the bytes that a command wrote, if its status is `DONE`.
 fn check_bytes(rt: &impl Abort, got: Option<&[u8]>, want: Option<&[u8]>) {
     assert_eq!(rt; got, want);
@@ -260,4 +397,9 @@ fn commands_over_files_in_memory_with_ample_memory(rt: HostRuntime) {
 #[test]
 fn films_in_memory_are_played_coded_and_compared_with_ample_memory(rt: HostRuntime) {
     check_films(&rt);
+}
+
+#[test]
+fn indexes_and_films_are_made_in_memory_with_ample_memory(rt: HostRuntime) {
+    check_making(&rt);
 }

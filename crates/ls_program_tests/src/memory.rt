@@ -20,6 +20,8 @@ pub struct Blank<'v> {
     /// The bytes that it will have, until it is made.
     bytes: Mutex<Option<&'v mut Vec<u8>>>,
     is_made: AtomicBool,
+    /// Whether it was removed or got another name, after it was made.
+    is_gone: AtomicBool,
     /// The number of bytes that were written to it.
     length: AtomicU64,
 }
@@ -31,8 +33,14 @@ impl<'v> Blank<'v> {
             path,
             bytes: Mutex::new(Some(bytes)),
             is_made: AtomicBool::new(false),
+            is_gone: AtomicBool::new(false),
             length: AtomicU64::new(0),
         }
+    }
+
+    /// Whether it was made and is still there.
+    fn stands(&self) -> bool {
+        self.is_made.load(Ordering::SeqCst) && !self.is_gone.load(Ordering::SeqCst)
     }
 
     /// Makes the file. Fails with `AlreadyExists` if it was made.
@@ -157,7 +165,7 @@ impl<'m, 'v> Makes for Memory<'m, 'v> {
             return Ok(Metadata::of_file(bytes.len() as u64));
         }
         match self.find_blank(path) {
-            Some(blank) if blank.is_made.load(Ordering::SeqCst) => {
+            Some(blank) if blank.stands() => {
                 Ok(Metadata::of_file(blank.length.load(Ordering::SeqCst)))
             }
             _ => Err(io::Error::from(ErrorKind::NotFound)),
@@ -168,12 +176,29 @@ impl<'m, 'v> Makes for Memory<'m, 'v> {
         Err(io::Error::from(ErrorKind::Unsupported))
     }
 
-    fn rename(&self, _from: &str, _to: &str) -> io::Result<()> {
-        Err(io::Error::from(ErrorKind::Unsupported))
+    /// Renames a file that was made to the path of another. Its bytes stay where they were written.
+    fn rename(&self, from: &str, to: &str) -> io::Result<()> {
+        match (self.find_blank(from), self.find_blank(to)) {
+            (Some(from), Some(to)) if from.stands() => {
+                let length = from.length.load(Ordering::SeqCst);
+                to.length.store(length, Ordering::SeqCst);
+                to.is_made.store(true, Ordering::SeqCst);
+                from.is_gone.store(true, Ordering::SeqCst);
+                Ok(())
+            }
+            _ => Err(io::Error::from(ErrorKind::NotFound)),
+        }
     }
 
-    fn remove(&self, _path: &str) -> io::Result<()> {
-        Err(io::Error::from(ErrorKind::Unsupported))
+    /// Removes a file that was made. It can't be made again.
+    fn remove(&self, path: &str) -> io::Result<()> {
+        match self.find_blank(path) {
+            Some(blank) if blank.stands() => {
+                blank.is_gone.store(true, Ordering::SeqCst);
+                Ok(())
+            }
+            _ => Err(io::Error::from(ErrorKind::NotFound)),
+        }
     }
 }
 

@@ -1,4 +1,5 @@
 pub mod Commands
+pub mod Each
 pub mod Indexes
 pub mod Listed
 pub mod Replays

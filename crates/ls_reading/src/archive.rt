@@ -98,7 +98,7 @@ where
 }
 
 /// Writes the index of a recording to any output, which isn't flushed.
-fn index_through<R, O, L, E>(program: Program<'_, R, O, L, E>, file: &str, sums: bool) -> u8
+pub fn index_through<R, O, L, E>(program: Program<'_, R, O, L, E>, file: &str, sums: bool) -> u8
 where
     R: AllocGlobal,
     O: Opens + Copy + Drop,
@@ -137,6 +137,17 @@ fn index_to<R: Feed, L: Outlet>(
     write_index(alloc, recording, lines, sums)
 }
 
+/// How recordings are checked.
+#[derive(Clone, Copy)]
+pub struct Checks {
+    /// The number of workers that decode by an index.
+    pub workers: u8,
+    /// Whether codestreams must be strict, too.
+    pub strict: bool,
+    /// Whether each line begins with the recording's name, since the lines of others are written too.
+    pub is_named: bool,
+}
+
 /// Looks for damage in a recording, by its index if one is named, and then with this number of workers that decode.
 /// Writes a line for each finding, through a buffer. With `strict` also looks, if nothing is damaged, whether each
 /// codestream is strict.
@@ -163,9 +174,6 @@ where
         output,
         console,
     } = program;
-    if strict && !is_read_twice(rt, file, "--strict", console) {
-        return FAILED;
-    }
     let Ok(buffer) = line_buffer(rt.alloc()) else {
         return no_memory(console);
     };
@@ -176,15 +184,12 @@ where
         output: &mut lines,
         console: &mut *console,
     };
-    let status = match index {
-        Some(index) => check_with(lined, file, index, workers),
-        None => check_alone(lined, file),
+    let asked = Checks {
+        workers,
+        strict,
+        is_named: false,
     };
-    let status = if strict && status == DONE {
-        look_strict(rt.alloc(), opener, file, console)
-    } else {
-        status
-    };
+    let status = check_lined(lined, file, index, asked);
     let status = if Outlet::failures(&lines) > 0 {
         say_unwritten(lines.last_failure(), console)
     } else {
@@ -194,12 +199,56 @@ where
     status
 }
 
-/// Looks for damage in a recording by its index, with this number of workers that decode.
+/// Looks for damage in a recording likewise, over any output, whose failures aren't looked at, and which isn't flushed.
+pub fn check_lined<R, O, L, E>(
+    program: Program<'_, R, O, L, E>,
+    file: &str,
+    index: Option<&str>,
+    asked: Checks,
+) -> u8
+where
+    R: AllocGlobal + Files + Threads + Sync,
+    O: Opens + Copy + Drop,
+    L: Write,
+    E: Outlet,
+    ensures status { DoneOrFailed result }
+    ensures good { result ≡ DONE → IfSome index.entry (λ index. PassesCheck O.holds program.entry.opener file.now index.now) }
+    ensures alone { result ≡ DONE → IfNone index.entry (HasNoGaps O.holds program.entry.opener file.now) }
+    ensures strict { result ≡ DONE → asked.strict ≡ true → HasStrictCodestreams O.holds program.entry.opener file.now }
+{
+    let Program {
+        rt,
+        opener,
+        output,
+        console,
+    } = program;
+    let Checks { strict, .. } = asked;
+    if strict && !is_read_twice(rt, file, "--strict", console) {
+        return FAILED;
+    }
+    let lined = Program {
+        rt,
+        opener,
+        output,
+        console: &mut *console,
+    };
+    let status = match index {
+        Some(index) => check_with(lined, file, index, asked),
+        None => check_alone(lined, file, asked),
+    };
+    if strict && status == DONE {
+        look_strict(rt.alloc(), opener, file, console)
+    } else {
+        status
+    }
+}
+
+/// Looks for damage in a recording by its index.
 fn check_with<R, O, W, E>(
     program: Program<'_, R, O, W, E>,
     file: &str,
     index: &str,
-    workers: u8,
+    asked: Checks,
 ) -> u8
 where
     R: AllocGlobal + Files + Threads + Sync,
@@ -224,8 +273,14 @@ where
         Err(status) => return status,
     };
     let mut findings: Vec<Finding> = Vec::new(rt.alloc());
-    let result = check_lent(rt, workers, &mut wanted, &mut recording, &mut findings);
-    let mut report = Report::new(rt.alloc(), file, output);
+    let result = check_lent(
+        rt,
+        asked.workers,
+        &mut wanted,
+        &mut recording,
+        &mut findings,
+    );
+    let mut report = Report::new(rt.alloc(), file, output, asked.is_named);
     let fault = match result {
         Ok(checked) => match find_moved(rt, opener, file, &findings, checked.bytes, console) {
             Ok(places) => return report.end_by(checked, &findings, &places, console),
@@ -384,7 +439,7 @@ fn is_of_index(fault: CheckFault) -> bool {
 }
 
 /// Looks for what can't be decoded in a recording, and says that no index is named.
-fn check_alone<R, O, W, E>(program: Program<'_, R, O, W, E>, file: &str) -> u8
+fn check_alone<R, O, W, E>(program: Program<'_, R, O, W, E>, file: &str, asked: Checks) -> u8
 where
     R: AllocGlobal,
     O: Opens + Copy + Drop,
@@ -403,7 +458,7 @@ where
         Ok(recording) => recording,
         Err(status) => return status,
     };
-    let mut report = Report::new(rt.alloc(), file, output);
+    let mut report = Report::new(rt.alloc(), file, output, asked.is_named);
     match decode_only(rt.alloc(), &mut recording, &mut report) {
         Ok(salvaged) => {
             let shown = Shown(file);
@@ -591,16 +646,19 @@ struct Report<'l, L> {
     /// The recording's name.
     file: &'l str,
     lines: &'l mut L,
+    /// Whether each line begins with the recording's name.
+    is_named: bool,
     /// The number of gaps reported so far.
     gaps: u64,
 }
 
 impl<'l, L: Outlet> Report<'l, L> {
-    fn new(alloc: Global, file: &'l str, lines: &'l mut L) -> Report<'l, L> {
+    fn new(alloc: Global, file: &'l str, lines: &'l mut L, is_named: bool) -> Report<'l, L> {
         Report {
             alloc,
             file,
             lines,
+            is_named,
             gaps: 0,
         }
     }
@@ -610,6 +668,16 @@ impl<'l, L: Outlet> Report<'l, L> {
         let line = format!(in self.alloc; "{text}\n")?;
         let _refused = write_bytes(self.lines, line.as_bytes());
         Ok(())
+    }
+
+    /// Writes a line about a frame, after the recording's name if lines begin with that.
+    fn write_of_frame<D: Display + Drop>(&mut self, text: D) -> Result<(), AllocError> {
+        if self.is_named {
+            let file = Shown(self.file);
+            self.write(format_args!("{file}: {text}"))
+        } else {
+            self.write(text)
+        }
     }
 
     /// Writes a line for each finding, with the place at which its codestream was found, if there is one, and then
@@ -670,8 +738,14 @@ impl<'l, L: Outlet> Report<'l, L> {
             ..
         } = *finding;
         match stands {
-            Some(stands) => self.write(format_args!("frame {number}: at {stands}, not {place}")),
-            None => self.write(format_args!("frame {number}: {damage}: {count} bytes at {place}")),
+            Some(stands) => {
+                self.write_of_frame(format_args!("frame {number}: at {stands}, not {place}"))
+            }
+            None => {
+                self.write_of_frame(format_args!(
+                    "frame {number}: {damage}: {count} bytes at {place}"
+                ))
+            }
         }
     }
 
@@ -717,6 +791,8 @@ impl<'l, L: Outlet> Gaps for Report<'l, L> {
         } = gap;
         let number = frame.saturating_add(self.gaps);
         self.gaps = self.gaps.saturating_add(1);
-        self.write(format_args!("frame {number}: {fault}: {count} bytes at {place} passed over"))
+        self.write_of_frame(format_args!(
+            "frame {number}: {fault}: {count} bytes at {place} passed over"
+        ))
     }
 }

@@ -34,17 +34,24 @@
 
 mod archive;
 mod asked;
+mod beside;
 mod cause;
+mod draft;
+mod each;
 mod films;
 mod indexing;
 mod listed;
+mod into;
 mod playing;
 mod recorded;
 mod replaying;
 mod strict;
 
 pub use archive::{check_recording, index, verify_files};
+pub use beside::index_beside;
+pub use each::{check_each, verify_pairs};
 pub use films::{code, code_with_index, list};
 pub use listed::show_listed;
+pub use into::show_into;
 pub use playing::{show, show_whole};
 pub use replaying::replay_file;

@@ -1,5 +1,5 @@
 -- The request that a command's matched words make. What `clap` matched of the words is given; of each argument it says the text, or the uses.
-use Rattle.std.specs.Prelude.{◌≡◌, ℕ, ◌<◌, ◌≤◌, ◌^◌, Bool, true, false, not, List, [], length, map, codes, Option, Some, None, IfSome, IfNone, option_map, unwrap_or}
+use Rattle.std.specs.Prelude.{◌≡◌, ℕ, ◌<◌, ◌≤◌, ◌^◌, Bool, true, false, not, List, [], ◌∷◌, length, map, flat_map, codes, Option, Some, None, IfSome, IfNone, option_map, unwrap_or}
 use Rattle.std.specs.Borrow.{Bor}
 use Rattle.std.specs.Str.Parse.{IsNumeral, digits_value, without_leading_plus}
 use Rattle.clap.specs.Words.{App, HasMatchesOf, subcommand_rows_of}
@@ -17,6 +17,10 @@ use Rattle.ls_command.specs.View.Asked.{ReadsFrames, ReadsPreset}
 -- the texts behind references
 abbrev pub texts_of : List (Bor (List ℕ)) → List (List ℕ)
 texts_of texts = map (λ (text : Bor (List ℕ)). text.now) texts
+
+-- the texts of pairs, in turn
+abbrev pub texts_in_turn : List (Bor (List ℕ) × Bor (List ℕ)) → List (List ℕ)
+texts_in_turn pairs = flat_map (λ (pair : Bor (List ℕ) × Bor (List ℕ)). pair.0.now ∷ pair.1.now ∷ []) pairs
 
 abbrev pub text_in : Option (Bor (List ℕ)) → Option (List ℕ)
 text_in text = option_map (λ (t : Bor (List ℕ)). t.now) text
@@ -54,6 +58,14 @@ module _ (words : ArgMatches) where
   abbrev pub files_in : List (List ℕ)
   files_in = unwrap_or (option_map raw_values (matched_of (found_of words) (codes "FILE"))) []
 
+  -- one file is named, and no more
+  abbrev pub HasFile : List ℕ → Type 0
+  HasFile file = files_in ≡ file ∷ []
+
+  -- The films and recordings that are named in turn: a film first, and then the files after it.
+  abbrev pub ArePairsOf : List (Bor (List ℕ) × Bor (List ℕ)) → Type 0
+  ArePairsOf pairs = (film : List ℕ) × HasText (codes "FILM") (Some film) × (texts_in_turn pairs ≡ film ∷ files_in)
+
   -- What is asked for beside tuning and films.
   pub record AsksSettings (asked : RecordRequest) : Type 0 where
     pub workers : ReadsNumber (2 ^ 64) (codes "workers") (Some asked.workers)
@@ -88,21 +100,29 @@ module _ (words : ArgMatches) where
   Asks name (request.List file) = (name ≡ codes "list") × HasText (codes "FILE") (Some file.now)
   Asks name (request.Code file index) = (name ≡ codes "code") × HasText (codes "FILE") (Some file.now) × HasText (codes "index") (text_in index)
   Asks name (request.Play file frames workers) =
-      (name ≡ codes "play") × HasText (codes "FILE") (Some file.now) × AsksFrames frames × AsksWorkers workers × IsGiven (codes "salvage") false
-      × HasText (codes "index") None × IfSome frames (λ _. workers ≤ 1)
+      (name ≡ codes "play") × HasFile file.now × AsksFrames frames × AsksWorkers workers × IsGiven (codes "salvage") false
+      × HasText (codes "index") None × HasText (codes "into") None × IfSome frames (λ _. workers ≤ 1)
+  Asks name (request.PlayInto files into frames workers) =
+      (name ≡ codes "play") × (texts_of files.items ≡ files_in) × HasText (codes "into") (Some into.now) × AsksFrames frames × AsksWorkers workers
+      × IsGiven (codes "salvage") false × HasText (codes "index") None × IfSome frames (λ _. workers ≤ 1)
   Asks name (request.Listed file index frames) =
-      (name ≡ codes "play") × HasText (codes "FILE") (Some file.now) × HasText (codes "index") (Some index.now) × AsksFrames (Some frames)
-      × IsGiven (codes "salvage") false
+      (name ≡ codes "play") × HasFile file.now × HasText (codes "index") (Some index.now) × AsksFrames (Some frames)
+      × IsGiven (codes "salvage") false × HasText (codes "into") None
   Asks name (request.Salvage file index) =
-      (name ≡ codes "play") × HasText (codes "FILE") (Some file.now) × HasText (codes "index") (text_in index) × IsGiven (codes "salvage") true
-      × HasText (codes "frames") None
-  Asks name (request.Index file sums) = (name ≡ codes "index") × HasText (codes "FILE") (Some file.now) × IsGiven (codes "no-sums") (not sums)
+      (name ≡ codes "play") × HasFile file.now × HasText (codes "index") (text_in index) × IsGiven (codes "salvage") true
+      × HasText (codes "frames") None × HasText (codes "into") None
+  Asks name (request.Index file sums) =
+      (name ≡ codes "index") × HasFile file.now × IsGiven (codes "no-sums") (not sums) × IsGiven (codes "beside") false
+  Asks name (request.IndexBeside files sums) =
+      (name ≡ codes "index") × (texts_of files.items ≡ files_in) × IsGiven (codes "no-sums") (not sums) × IsGiven (codes "beside") true
   Asks name (request.Check file index workers strict) =
-      (name ≡ codes "check") × HasText (codes "FILE") (Some file.now) × HasText (codes "index") (text_in index) × AsksWorkers workers
+      (name ≡ codes "check") × HasFile file.now × HasText (codes "index") (text_in index) × IsGiven (codes "beside") false × AsksWorkers workers
       × IsGiven (codes "strict") strict × IfNone index (workers ≤ 1)
-  Asks name (request.Verify film recording workers strict) =
-      (name ≡ codes "verify") × HasText (codes "FILM") (Some film.now) × HasText (codes "FILE") (Some recording.now)
-      × ReadsNumber (2 ^ 8) (codes "workers") (Some workers) × IsGiven (codes "strict") strict
+  Asks name (request.CheckEach files beside workers strict) =
+      (name ≡ codes "check") × (texts_of files.items ≡ files_in) × HasText (codes "index") None × IsGiven (codes "beside") beside × AsksWorkers workers
+      × IsGiven (codes "strict") strict × (beside ≡ false → workers ≤ 1)
+  Asks name (request.Verify pairs workers strict) =
+      (name ≡ codes "verify") × ArePairsOf pairs.items × ReadsNumber (2 ^ 8) (codes "workers") (Some workers) × IsGiven (codes "strict") strict
   Asks name (request.Record asked) = (name ≡ codes "record") × AsksRecording asked
   Asks name (request.Replay sources capacity file) =
       (name ≡ codes "replay") × HasText (codes "FILE") (Some file.now) × ReadsNumber (2 ^ 8) (codes "sources") (Some sources)

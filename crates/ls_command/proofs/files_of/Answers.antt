@@ -1,7 +1,7 @@
 use Rattle.std.proofs.Common.{ℕ, Option, List, [], unwrap_or, ap, ◌∙◌}
 use Rattle.std.proofs.lemmas.Result.{IfOk-weaker}
 use Rattle.ls_command.specs.View.Matched.{texts_of}
-use Rattle.ls_command.proofs.films_of.Goals as goal
+use Rattle.ls_command.proofs.files_of.Goals as goal
 
 pub returns-in-Some : goal.returns-in-Some
 returns-in-Some c =
