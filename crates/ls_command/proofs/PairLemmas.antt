@@ -17,7 +17,7 @@ module _ (first : List ℕ) (files : List (Bor (List ℕ))) (i : ℕ) (d : Bor (
   next texts same =
       let one : List (List ℕ) = (get_or files i d).now ∷ [] in
       let more : texts_of (take (i + 1) files) ≡ texts_of (take i files) ++ one =
-          ap texts_of (take_more files i d less) ∙ map-append (λ (text : Bor (List ℕ)). text.now) (take i files) (get_or files i d ∷ []) in
+      ap texts_of (take_more files i d less) ∙ map-append (λ (text : Bor (List ℕ)). text.now) (take i files) (get_or files i d ∷ []) in
       ap (λ ts. ts ++ one) same ∙ sym (ap (λ ts. first ∷ ts) more)
 
   -- it is a film, which waits for its recording
