@@ -1,9 +1,10 @@
 //! The commands that read a film or a recording and record none: `list`, `code`, `play`, `index`, `check`, `verify`
 //! and `replay`.
 //!
-//! What it hands on: a function for each command, or two (`show` and `show_whole` are `play`). Each opens its files,
-//! runs an engine of the crates below over them, says on the console what stopped it, and returns the status that the
-//! program exits with.
+//! What it hands on: a function for each command, or more: `show`, `show_whole` and, for several files, `show_into` are
+//! `play`; `index_beside`, `check_each` and `verify_pairs` are for several files, too. Each opens its files, runs an
+//! engine of the crates below over them, says on the console what stopped it, and returns the status that the program
+//! exits with.
 //!
 //! ```
 //! use ls_console::{Host, Program};
@@ -26,10 +27,13 @@
 //!
 //! In reading order: `cause` (the causes of faults), `asked` (what a command that writes lines is asked for), `films`
 //! (`list` and `code`), `indexing` (the file of an index that is written together with its recording), `playing`
-//! (`play`), `listed` (a part that is found by an index), `recorded` (the recorded numbers of gaps, and lost frames), `archive` (`index`, `check` and `verify`),
-//! `strict` (whether codestreams are strict), `replaying` (`replay`). The contracts say which status each returns, and what each has read and written if it is 0
-//! (`specs/View/Commands.antt`, `specs/View/Replays.antt`); what each engine does over any reader and writer is said at
-//! the function that calls it. What is said on standard error, the tests of the whole program show.
+//! (`play`), `listed` (a part that is found by an index), `recorded` (the recorded numbers of gaps, and lost frames),
+//! `archive` (`index`, `check` and `verify`), `strict` (whether codestreams are strict), `each` (`check` and `verify` of
+//! several files), `draft` (a file that takes its name once it is whole), `beside` (`index` of several files), `into`
+//! (`play` of several files), `replaying` (`replay`). The contracts say which status each returns, and what each has read
+//! and written if it is 0 (`specs/View/Commands.antt`, `specs/View/Each.antt`, `specs/View/Replays.antt`); what each
+//! engine does over any reader and writer is said at the function that calls it. What is said on standard error, the
+//! tests of the whole program show.
 #![tactic(auto)]
 
 mod archive;
@@ -40,8 +44,8 @@ mod draft;
 mod each;
 mod films;
 mod indexing;
-mod listed;
 mod into;
+mod listed;
 mod playing;
 mod recorded;
 mod replaying;
@@ -51,7 +55,7 @@ pub use archive::{check_recording, index, verify_files};
 pub use beside::index_beside;
 pub use each::{check_each, verify_pairs};
 pub use films::{code, code_with_index, list};
-pub use listed::show_listed;
 pub use into::show_into;
+pub use listed::show_listed;
 pub use playing::{show, show_whole};
 pub use replaying::replay_file;
