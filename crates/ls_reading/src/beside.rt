@@ -9,7 +9,6 @@ use crate::each::{index_name, worse};
 use ls_console::{Console, DONE, Host, MadeFile, Program, no_memory};
 use ls_files::Makes;
 use ls_frame::{Counted, Outlet};
-use std::alloc::AllocError;
 use std::io::Write;
 
 /// Writes the index of each of these recordings, with sums or without, to a new file beside it. If that can't be done
@@ -31,24 +30,14 @@ where
     } = program;
     let mut status = DONE;
     for file in files {
-        let own = match index_name(rt.alloc(), file) {
-            Ok(name) => index_into(rt, opener, file, name, sums, console),
-            Err(AllocError) => no_memory(console),
-        };
+        let own = index_one(rt, opener, file, sums, console);
         status = worse(status, own);
     }
     status
 }
 
-/// Writes the index of a recording to a new file at `path`.
-fn index_into<R, O, E>(
-    rt: &R,
-    opener: O,
-    file: &str,
-    path: String,
-    sums: bool,
-    console: &mut Console<E>,
-) -> u8
+/// Writes the index of a recording to a new file beside it.
+fn index_one<R, O, E>(rt: &R, opener: O, file: &str, sums: bool, console: &mut Console<E>) -> u8
 where
     R: Host,
     O: Makes + Copy + Drop,
@@ -56,6 +45,9 @@ where
     ensures status { DoneOrFailed result }
     ensures written { result ≡ DONE → IsIndexed O.holds O.File.contents opener sums file.now }
 {
+    let Ok(path) = index_name(rt.alloc(), file) else {
+        return no_memory(console);
+    };
     let Ok(draft) = Draft::new(rt.alloc(), path) else {
         return no_memory(console);
     };

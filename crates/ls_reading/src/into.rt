@@ -45,21 +45,18 @@ where
     }
     let mut status = DONE;
     for file in files {
-        let own = match film_name(rt.alloc(), file, into) {
-            Ok(name) => show_to(rt, opener, file, name, part, workers, console),
-            Err(AllocError) => no_memory(console),
-        };
+        let own = show_one(rt, opener, file, into, part, workers, console);
         status = worse(status, own);
     }
     status
 }
 
-/// Plays a recording, or a part of it, to a new film at `path`.
-fn show_to<R, O, E>(
+/// Plays a recording, or a part of it, to a new film in the folder `into`.
+fn show_one<R, O, E>(
     rt: &R,
     opener: O,
     file: &str,
-    path: String,
+    into: &str,
     part: Option<Part>,
     workers: u8,
     console: &mut Console<E>,
@@ -71,6 +68,9 @@ where
     ensures status { DoneOrFailed result }
     ensures played { result ≡ DONE → IsPlayed O.holds O.File.contents opener part file.now }
 {
+    let Ok(path) = film_name(rt.alloc(), file, into) else {
+        return no_memory(console);
+    };
     let Ok(draft) = Draft::new(rt.alloc(), path) else {
         return no_memory(console);
     };

@@ -42,7 +42,8 @@ where
         output,
         console,
     } = program;
-    if !is_read_twice(rt, file, "--index", console) || !is_read_twice(rt, index, "--index", console)
+    if !is_read_twice(rt, file, "--index", console)
+        || !is_read_twice(rt, index, "--index", console)
     {
         return FAILED;
     }

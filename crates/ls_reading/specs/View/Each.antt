@@ -3,8 +3,7 @@ use Rattle.std.specs.Prelude.{◌≡◌, ◌++◌, ℕ, Bool, true, false, List,
 use Rattle.ls_stream.specs.Grammar.{Spells}
 use Rattle.ls_film.specs.declared.part.Part.{Part}
 use Rattle.ls_film.specs.Showing.{show as film_images}
-use Rattle.ls_files.specs.declared.target.Target.{Target}
-use Rattle.ls_files.specs.View.Files.{held_by_target}
+use Rattle.ls_files.specs.View.Opened.{known_of}
 use Rattle.ls_reading.specs.View.Commands.{HasNoGaps, HasStrictCodestreams, HaveSameFrames, IsPart, PassesCheck, ShowsPartOf, WritesIndexOf, WritesTextOf}
 
 module _ {O : Type 0} (holds : O → List ℕ → Option (List ℕ) → Type 0) (opener : O) where
@@ -24,13 +23,13 @@ module _ {O : Type 0} (holds : O → List ℕ → Option (List ℕ) → Type 0) 
 module _ {O F : Type 0} (holds : O → List ℕ → Option (List ℕ) → Type 0) (contents : F → Option (List ℕ)) (opener : O) where
   -- The index of the recording at this path was written to a file that was made for it, and nothing else was.
   pub record IsIndexed (sums : Bool) (recording : List ℕ) : Type 0 where
-    pub made : Target O F
-    pub written : Target O F
-    pub index : WritesIndexOf holds opener recording (held_by_target contents made) (held_by_target contents written) sums
+    pub made : Option F
+    pub written : Option F
+    pub index : WritesIndexOf holds opener recording (known_of contents made) (known_of contents written) sums
 
   -- The frames of the recording at this path, or those of a part, were written to a film that was made for it, and nothing else was.
   pub record IsPlayed (part : Option Part) (recording : List ℕ) : Type 0 where
-    pub made : Target O F
-    pub written : Target O F
-    pub all : IfNone part (WritesTextOf holds opener recording (held_by_target contents made) (held_by_target contents written) Spells film_images)
-    pub some : IfSome part (λ part. IsPart part → ShowsPartOf holds opener recording (held_by_target contents made) (held_by_target contents written) part)
+    pub made : Option F
+    pub written : Option F
+    pub all : IfNone part (WritesTextOf holds opener recording (known_of contents made) (known_of contents written) Spells film_images)
+    pub some : IfSome part (λ part. IsPart part → ShowsPartOf holds opener recording (known_of contents made) (known_of contents written) part)
