@@ -75,14 +75,16 @@ says(1, b"", "jlsrec: white.jls: frame 1: changed\n", *play("1", "white.index", 
 lines = lines_of(frames)
 for name, text in {
     "a line less": b"".join(lines[:2] + lines[3:]),
-    "two lines changed about": b"".join(lines[:2] + [lines[3], lines[2]] + lines[4:]),
     "CR": b"".join(lines).replace(b"\n", b"\r\n"),
     "blanks": b"".join(lines).replace(b" ", b"  "),
     "an end within a line": b"".join(lines[:3])[:-1],
 }.items():
     write("broken", text)
-    at = {"CR": 0, "blanks": 0}.get(name, 2)
+    at = 0 if name == "blanks" else 2
     says(1, b"", f"jlsrec: broken: line {at}: not of an index\n", *play("2", "broken"))
+# What is shown rests on its own line alone, wherever that stands.
+write("changed about", b"".join(lines[:2] + [lines[3], lines[2]] + lines[4:]))
+says(0, film(frames[2:3]), "", *play("2", "changed about"))
 write("offset", lines[0] + lines[1].replace(b"1 ", b"1 1", 1) + b"".join(lines[2:]))
 status, shown, said = cases.run(*play("1", "offset"))
 count("another offset", (status, shown) == (1, b"") and said, (status, shown, said))
