@@ -308,7 +308,7 @@ def second():
             count(f"{first.name} alone, where nobody reads the recording", recorder.process.poll() is None)
             status, _out, _err, took = recorder.stop(then)
             count(f"{first.name} and then {then.name}", status == -then, status)
-            count(f"{first.name} and then {then.name}: at once", took < 0.3, took)
+            count(f"{first.name} and then {then.name}: at once", took < 1, took)
             camera.end()
             os.chdir("..")
     fresh("two_at_once")
