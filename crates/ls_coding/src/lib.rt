@@ -63,7 +63,7 @@ pub use error::median_by;
 pub use mirrored::{Mirrored, mirror};
 pub use neighbours::{Mode, Neighbours, mode_of};
 pub use plan::Plan;
-pub use regions::{Regions, whole_context};
+pub use regions::{Regions, RegionsView, whole_context};
 pub use run::{RunWord, Tail};
 pub use state::State;
 pub use sure_zeros::SureZeros;

@@ -44,6 +44,39 @@ impl Regions {
         Ok(Regions { presets, table })
     }
 
+    /// The table, to be looked up in. Allocates nothing and cannot fail.
+    pub fn view(&self) -> RegionsView<'_>
+        ensures { result ≡ self.now }
+    {
+        RegionsView {
+            presets: self.presets,
+            table: &self.table,
+        }
+    }
+}
+
+/// The table of a `Regions`. A decoder holds it by value, so that the table's place stays in a register.
+///
+/// In contracts it stands for the parameters, as the table does.
+#[derive(Drop)]
+pub struct RegionsView<'a> {
+    presets: Presets,
+    /// The regions, starting with that of -MAXVAL.
+    table: &'a [i8],
+}
+
+impl<'a> Model for RegionsView<'a> {
+    ghost use Rattle.ls_frame.specs.Parameters.{Parameters};
+    ghost use Rattle.ls_coding.specs.View.RegionTables.{AreRegions};
+
+    ghost Value = { Parameters };
+
+    ghost view = { λ r. r.presets };
+
+    ghost invariant = { λ r. AreRegions r.presets r.table.now };
+}
+
+impl<'a> RegionsView<'a> {
     /// The region of the gradient `over` - `other`, both at most MAXVAL.
     fn region(&self, over: u16, other: u16) -> i16
         requires over { over ≤ self.now.maxval }
@@ -62,7 +95,7 @@ impl Regions {
 ///
 /// Requires Ra and Rc of at most the parameters' `maxval`, and a half of -360 to 360, as `half_context` gives it.
 /// Allocates nothing and cannot fail.
-pub fn whole_context(regions: &Regions, half: i16, a: u16, c: u16) -> i16
+pub fn whole_context(regions: &RegionsView, half: i16, a: u16, c: u16) -> i16
     requires half_low { neg_ℤ (pos 360) ≤ℤ half }
     requires half_high { half ≤ℤ pos 360 }
     requires left { a ≤ regions.now.maxval }

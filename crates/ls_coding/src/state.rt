@@ -139,13 +139,26 @@ impl State {
         ensures word { (sample : ℕ) → IsReadBy result (regular_word_in self.now neighbours.now sample) }
     {
         let context = signed_context(&self.counters.presets, neighbours);
-        self.plan_regular_at(context, u32::from(median(neighbours)), neighbours)
+        self.plan_regular_at(
+            self.counters.presets,
+            context,
+            u32::from(median(neighbours)),
+            neighbours,
+        )
     }
 
     /// As `plan_regular`, for a sample whose context, and the median of whose neighbours (A.4.1), were computed
     /// beforehand: `context` is what `signed_context` or `whole_context` gives for this scan's presets and these
-    /// neighbours; `middle` is what `median_by` gives. Requires the same otherwise.
-    pub fn plan_regular_at(&self, context: i16, middle: u32, neighbours: &Neighbours) -> Plan
+    /// neighbours; `middle` is what `median_by` gives. `presets` must be this scan's parameters. Requires the same
+    /// otherwise.
+    pub fn plan_regular_at(
+        &self,
+        presets: Presets,
+        context: i16,
+        middle: u32,
+        neighbours: &Neighbours,
+    ) -> Plan
+        requires presets { presets ≡ self.now.parameters }
         requires context { context ≡ signed_context self.now.parameters neighbours.now }
         requires middle { middle ≡ median neighbours.now }
         requires samples { AreSamples self.now.parameters.maxval neighbours.now }
@@ -158,7 +171,7 @@ impl State {
         ensures word { (sample : ℕ) → IsReadBy result (regular_word_in self.now neighbours.now sample) }
     {
         self.counters
-            .plan(context_of_signed(context), middle, neighbours)
+            .plan(presets, context_of_signed(context), middle, neighbours)
     }
 
     /// Decodes a sample of regular mode: returns the one sample whose word has this value, MErrval, and leaves the
@@ -190,9 +203,10 @@ impl State {
 
     /// As `accept_regular`, for a value that is sure to have a sample, so it cannot fail. Requires that value / 2^k,
     /// the number of zeros at the front of its word, is below what `SureZeros` of this scan's presets gives for the
-    /// plan's k.
+    /// plan's k. `presets` must be this scan's parameters.
     #[inline(always)]
-    pub fn accept_sure(&mut self, plan: Plan, value: u32) -> u16
+    pub fn accept_sure(&mut self, presets: Presets, plan: Plan, value: u32) -> u16
+        requires presets { presets ≡ self.old.parameters }
         requires plan { plan ≡ regular_plan self.old plan.neighbours }
         requires samples { AreSamples self.old.parameters.maxval plan.neighbours }
         requires value { value / 2 ^ plan.k < sure_zeros self.old.parameters plan.k }
@@ -202,8 +216,14 @@ impl State {
         ensures state { self.new ≡ regular_after self.old (context_in self.old plan.neighbours).number
             (regular_error_in self.old plan.neighbours result) }
     {
-        self.counters
-            .accept_sure(plan.number, plan.negative, plan.prediction, plan.k, value)
+        self.counters.accept_sure(
+            presets,
+            plan.number,
+            plan.negative,
+            plan.prediction,
+            plan.k,
+            value,
+        )
     }
 
     /// Codes a run of `count` samples that are equal to Ra (A.7.1): up to the line's end (`eol`), or up to a sample

@@ -21,7 +21,7 @@ fn check_contexts(rt: &impl Abort, alloc: Global) -> Result<(), AllocError> {
     let regions = Regions::new(alloc, &presets)?;
     for ([a, b, c, d], want) in CONTEXTS {
         let half = half_context(&presets, *b, *c, *d);
-        check_equal(rt, &whole_context(&regions, half, *a, *c), want);
+        check_equal(rt, &whole_context(&regions.view(), half, *a, *c), want);
     }
     Ok(())
 }

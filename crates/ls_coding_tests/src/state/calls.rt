@@ -133,7 +133,8 @@ pub fn accept_sure(rt: &impl Abort, state: &mut State, around: Around, value: u3
     let plan = state.plan_regular(&neighbours);
     let k = plan.k();
     check(rt, value >> k < sure.of(k));
-    state.accept_sure(plan, value)
+    let presets = *state.presets();
+    state.accept_sure(presets, plan, value)
 }
 
 pub fn code_run(rt: &impl Abort, state: &mut State, count: u32, eol: bool) -> RunWord {
