@@ -1,7 +1,10 @@
 //! Encoding frames as codestreams (T.87 Annex C).
+mod beside;
 mod coder;
 mod row;
 mod scan;
+
+pub use beside::encode_side_by_side;
 
 ghost use Rattle.std.specs.Prelude.{◌≡◌, ◌+◌, ◌-◌, ◌*◌, ◌/◌, ◌^◌, ◌<◌, ◌≤◌, ◌++◌, true, false, List, length, take, drop, map, flat_map, IfOk, IfSome, IfNone, MatchOption, vec_len, vec_capacity, if◌then◌else◌};
 ghost use Rattle.std.specs.List.{range_with_len};
