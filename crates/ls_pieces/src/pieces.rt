@@ -139,7 +139,5 @@ fn code_side_by_side<R: Threads>(
 ) -> Result<Vec<u8>, AllocError>
     ensures { IfOk result (λ bytes. IsCoded order.now bytes.items) }
 {
-    let frame = &**order.frame();
-    let presets = order.presets();
-    encode_side_by_side(rt, alloc, frame, presets)
+    encode_side_by_side(rt, alloc, &**order.frame(), order.presets())
 }
