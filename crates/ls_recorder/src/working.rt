@@ -74,12 +74,7 @@ pub fn work<R: Threads + Wait, G: Gate>(
 }
 
 /// Codes a job, with the scans of a colour frame side by side if it `splits`.
-fn code<R: Threads>(
-    rt: &R,
-    alloc: Global,
-    job: Job<Order>,
-    splits: bool,
-) -> Result<Coded, Uncoded>
+fn code<R: Threads>(rt: &R, alloc: Global, job: Job<Order>, splits: bool) -> Result<Coded, Uncoded>
     ensures { MatchResult result (λ piece. piece ≡ job) (λ uncoded. (uncoded.source ≡ job.source) × (uncoded.number ≡ job.number)) }
 {
     if splits {

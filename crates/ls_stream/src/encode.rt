@@ -4,8 +4,6 @@ mod coder;
 mod row;
 mod scan;
 
-pub use beside::encode_side_by_side;
-
 ghost use Rattle.std.specs.Prelude.{◌≡◌, ◌+◌, ◌-◌, ◌*◌, ◌/◌, ◌^◌, ◌<◌, ◌≤◌, ◌++◌, true, false, List, length, take, drop, map, flat_map, IfOk, IfSome, IfNone, MatchOption, vec_len, vec_capacity, if◌then◌else◌};
 ghost use Rattle.std.specs.List.{range_with_len};
 ghost use Rattle.ls_frame.specs.Picture.{IsFormed, IsFrame, components};
@@ -18,6 +16,7 @@ use crate::marker::Marker;
 use crate::segments::write::{
     presets_length, put_frame_header, put_marker, put_presets_if_needed, put_scan_header,
 };
+pub use beside::encode_side_by_side;
 use ls_bits::{Room, SliceRoom};
 use ls_frame::{Frame, Presets};
 use scan::put_scan;

@@ -51,7 +51,7 @@ returns-clause-bytes c =
     let f = c.args.picture.now in
     let p = c.args.presets.now in
     let scans = three_scans f p _ _ _ _ c.args.first.now c.args.second.now c.args.third.now c.requires.color c.requires.first c.requires.second c.requires.third c.in_ok-extend_from_slice.ensures.items
-        c.in_ok-extend_from_slice-2.ensures.items c.in_ok-extend_from_slice-3.ensures.items in
+    c.in_ok-extend_from_slice-2.ensures.items c.in_ok-extend_from_slice-3.ensures.items in
     all_put f p [] _ _ _ _ _ (c.put_marker.ensures.bytes ∙ ap (λ x. x ++ marker StartOfImage) c.in_ok-bytes.ensures.items) c.put_frame_header.ensures.bytes
     c.put_presets_if_needed.ensures.bytes scans c.in_ok-extend_from_slice-4.ensures.items
 
