@@ -19,7 +19,7 @@ use ls_console::{
 };
 use ls_files::{Makes, Opens, Target, Targets};
 use ls_frame::{Counted, Failed, NetpbmFault, Outlet};
-use ls_opening::Film;
+use ls_opening::{Film, Synced};
 use ls_recorder::{LaneFault, Track};
 use std::alloc::{AllocError, Global};
 use std::io::Write;
@@ -256,14 +256,7 @@ where
     if let Some(name) = film.left_over() {
         console.mention(names.recording.as_str(), name);
     }
-    let index = match follower {
-        Some(follower) => Some(end_index(film, follower, synced.index, broken, console)),
-        None => None,
-    };
-    let times = match times {
-        Some(times) => Some(end_times(film, times, synced.times, console)),
-        None => None,
-    };
+    let (index, times) = end_beside(film, follower, broken, times, synced, console);
     film.frames = frames;
     End {
         files: Targets {
@@ -273,6 +266,31 @@ where
         },
         is_whole: frames.is_some() && !film.is_beside_broken,
     }
+}
+
+/// Says why the files beside a recording aren't whole, if they aren't, and returns those that it has: its index, and the
+/// times of its frames.
+fn end_beside<'a, O, E>(
+    film: &mut Film<'_, O>,
+    follower: Option<Follower<Counted<Target<'a, O>>>>,
+    broken: Option<IndexFault>,
+    times: Option<TimesFile<'a, O>>,
+    synced: Synced,
+    console: &mut Console<E>,
+) -> (Option<Target<'a, O>>, Option<Target<'a, O>>)
+where
+    O: Makes + Copy + Drop,
+    E: Outlet,
+{
+    let index = match follower {
+        Some(follower) => Some(end_index(film, follower, synced.index, broken, console)),
+        None => None,
+    };
+    let times = match times {
+        Some(times) => Some(end_times(film, times, synced.times, console)),
+        None => None,
+    };
+    (index, times)
 }
 
 /// Says why the index of a film isn't whole, if it isn't, and returns its file.
