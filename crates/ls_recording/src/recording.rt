@@ -3,10 +3,10 @@ ghost use Rattle.std.specs.Prelude.{◌≡◌, true, List, IfOk, IfErr, MatchRes
 ghost use Rattle.std.specs.List.{AllZip};
 ghost use Rattle.ls_opening.specs.View.Devices.{left_of};
 ghost use Rattle.ls_recording.specs.View.Films.{HasTrack, IsRefused, IsWhole, IsRecorded, HasRecorded, held};
-ghost use Rattle.ls_files.specs.declared.keeper.Targets.{Targets};
+ghost use Rattle.ls_recording.specs.declared.ending.EndedFiles.{EndedFiles};
 
 use crate::ending::report::{report_of, write_report};
-use crate::ending::{Ends, end_films, release, say_counts};
+use crate::ending::{EndedFiles, Ends, end_films, release, say_counts};
 use crate::watching::Watch;
 use crate::watching::keeping::keep_files;
 use crate::watching::limiting::Limiting;
@@ -15,9 +15,9 @@ use crate::watching::schedule::{Deadline, Syncs};
 use crate::watching::times::FilmTimes;
 use ls_command::RecordRequest;
 use ls_console::{DONE, FAILED, Host, Program, Reader, no_memory};
-use ls_files::{Makes, Opens, Targets};
+use ls_files::Makes;
 use ls_frame::{Feed, Outlet, Tuning};
-use ls_opening::{Course, Devices, Film, Limited, Opened, Writer, names_once, open_films};
+use ls_opening::{Chain, Course, Devices, Film, Limited, Opened, Writer, names_once, open_films};
 use ls_recorder::{Gate, RecordFault, Recording as Tracks, Track, record};
 use std::alloc::{AllocError, Global};
 use std::io::Write;
@@ -40,14 +40,14 @@ pub type Recorded<'a, O> = Result<
 
 /// The end of a recording: the status to exit with, and the files of each film.
 #[derive(Drop)]
-struct Finished<'a, O: Opens> {
+struct Finished<'a, O: Makes> {
     status: u8,
-    files: Vec<Targets<'a, O>>,
+    files: Vec<EndedFiles<'a, O>>,
 }
 
 /// Records the films that are asked for, says how each ended, and returns the status. On a terminal progress is always
-/// shown. With `DONE` each film was recorded from its own file to its own recording, with the tuning asked for: to its
-/// end, as far as it was read when the program was asked to stop, or as many frames of it as are asked for.
+/// shown. With `DONE` each film was recorded from its own file to its own recording, or to pieces that are the recording
+/// one after the other, with the tuning asked for: to its end, as far as it was read when the program was asked to stop, or as many frames of it as are asked for.
 pub fn record_films<R, O, W, E>(program: Program<'_, R, O, W, E>, asked: RecordRequest<'_>) -> u8
 where
     R: Host + Clock + Threads + Wait + Sync,
@@ -55,7 +55,7 @@ where
     R::File: Send,
     W: Write + Send,
     E: Outlet + Send,
-    ensures { result ≡ DONE → HasRecorded O.holds R.File.remaining R.File.contents program.entry.opener asked.entry.tuning asked.entry.count asked.entry.files.items }
+    ensures { result ≡ DONE → HasRecorded O.holds R.File.remaining R.File.contents O.kept program.entry.opener asked.entry.tuning asked.entry.count asked.entry.files.items }
 {
     let columns = program.console.columns();
     let names = match names_once(program.rt.alloc(), &asked, columns) {
@@ -63,7 +63,9 @@ where
         Err(refusal) => return refusal.say(program.console),
     };
     let alloc = program.rt.alloc();
-    let Ok(courses) = Course::of_each(alloc, names.len(), asked.count, asked.times) else {
+    let courses = Course::of_each(alloc, names.len(), asked.count, asked.times, asked.pieces);
+    let cut = if asked.pieces.is_some() { names.len() } else { 0 };
+    let (Ok(courses), Ok(chains)) = (courses, Chain::of_each(alloc, cut)) else {
         return no_memory(program.console);
     };
     match open_films(
@@ -72,6 +74,7 @@ where
         &asked,
         &names,
         &courses,
+        &chains,
         program.console,
     ) {
         Ok(opened) => record_opened(program, &asked, &courses, opened),
@@ -94,7 +97,7 @@ where
     O::File: Send,
     W: Write + Send,
     E: Outlet + Send,
-    ensures { result ≡ DONE → (files : List (Targets O O.File)) × AllZip (IsRecorded O.File.remaining O.File.contents asked.now.count) opened.entry.devices.items files }
+    ensures { result ≡ DONE → (files : List (EndedFiles O O.File O.Finished)) × AllZip (IsRecorded O.File.remaining O.File.contents O.kept asked.now.count) opened.entry.devices.items files }
 {
     let Program {
         rt,
@@ -161,7 +164,8 @@ fn times_of<'a, O: Makes + Copy + Drop>(
     let mut times = Vec::new(alloc);
     for film in films.iter_mut() {
         if let Some(target) = film.take_times() {
-            times.push(FilmTimes::new(alloc, opener, target)?)?;
+            let path = film.names.times.as_str();
+            times.push(FilmTimes::new(alloc, opener, path, target, film.cutting())?)?;
         }
     }
     Ok(times)
@@ -186,7 +190,7 @@ where
     O::File: Send,
     W: Write + Send,
     E: Outlet + Send,
-    ensures { IfOk result (λ recording. AllZip (HasTrack (left_of O.File.remaining) (held O.File.contents)) devices.entry.items recording.tracks.items) }
+    ensures { IfOk result (λ recording. AllZip (HasTrack (left_of O.File.remaining) (held O.File.contents O.kept)) devices.entry.items recording.tracks.items) }
 {
     let syncs = Syncs::new(asked);
     let gate = Limiting {
