@@ -14,7 +14,7 @@ _jlsrec() {
         ;;
     record)
         options+=' --workers --queue --window --preset --into --replace --progress --report --index --times'
-        options+=' --count --for --keep-open --sync'
+        options+=' --pieces --count --for --keep-open --sync'
         ;;
     play) options+=' --into --frames --salvage --index --workers' ;;
     verify) options+=' --workers --strict' ;;

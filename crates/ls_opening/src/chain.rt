@@ -2,11 +2,11 @@
 use ls_files::{Beside, Keeper, Makes};
 use ls_frame::Failed;
 use std::alloc::{AllocError, Global};
+use std::collections::VecDeque;
 use std::hint::spin_loop;
 use std::io;
-use std::sync::Mutex;
-use std::sync::MutexGuard;
 use std::sync::atomic::{AtomicU32, AtomicU64, Ordering};
+use std::sync::{Mutex, MutexGuard};
 
 /// The most pieces that wait to be brought onto the disk by another thread than that which writes the recording.
 const MOST_WAITING: usize = 8;
@@ -17,7 +17,7 @@ const MOST_WAITING: usize = 8;
 #[derive(Drop)]
 pub struct Chain<O: Makes> {
     /// The pieces that were begun and not taken yet, the oldest first. Any thread may take the oldest.
-    waiting: Mutex<Vec<Keeper<O>>>,
+    waiting: Mutex<VecDeque<Keeper<O>>>,
     /// The file for the times of the piece that was begun last, until it is taken.
     times: Mutex<Option<O::File>>,
     /// The number of pieces that were begun but the first: so the number of the last one.
@@ -34,7 +34,7 @@ impl<O: Makes + Copy + Drop> Chain<O> {
         let mut chains = Vec::new(alloc);
         for _film in 0..films {
             chains.push(Chain {
-                waiting: Mutex::new(Vec::with_capacity(alloc, MOST_WAITING)?),
+                waiting: Mutex::new(VecDeque::with_capacity(alloc, MOST_WAITING)?),
                 times: Mutex::new(None),
                 begun: AtomicU32::new(0),
                 recording: AtomicU64::new(0),
@@ -72,7 +72,7 @@ impl<O: Makes + Copy + Drop> Chain<O> {
     /// Hands on a piece that was just begun, and the file for its times, if it has one. Fails if memory runs out.
     pub fn hand_on(&self, keeper: Keeper<O>, times: Option<O::File>) -> io::Result<()> {
         match held(&self.waiting) {
-            Some(mut waiting) => match waiting.push(keeper) {
+            Some(mut waiting) => match waiting.push_back(keeper) {
                 Ok(()) => {}
                 Err(_) => return Err(io::Error::from(AllocError)),
             },
@@ -88,10 +88,7 @@ impl<O: Makes + Copy + Drop> Chain<O> {
     /// Takes the oldest piece that waits. It is finished if another was begun after it.
     pub fn take(&self) -> Option<Keeper<O>> {
         let mut waiting = held(&self.waiting)?;
-        if waiting.is_empty() {
-            return None;
-        }
-        Some(waiting.remove(0))
+        waiting.pop_front()
     }
 
     /// Takes the file for the times of the piece that was begun last, if no call has taken it before.

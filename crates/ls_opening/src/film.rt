@@ -2,6 +2,7 @@
 ghost use Rattle.std.specs.Prelude.{◌≡◌, IfOk, string_bytes};
 ghost use Rattle.ls_files.specs.View.Files.{path_of_target};
 
+use crate::chain::Chain;
 use crate::found::Found;
 use crate::names::Names;
 use crate::pieces::{Cutting, Succession};
@@ -56,19 +57,29 @@ const SYNCED: Unsynced = Unsynced {
 };
 
 impl Unsynced {
-    /// Notes whether the file that is written was synced, unless it was the file of a piece that another thread has synced.
-    fn note(&mut self, outcome: Result<(), Failed>) {
-        if let Err(failure) = outcome {
-            self.has_failed = true;
-            self.note_first(Some(failure));
+    /// Notes whether the file that is written was synced. Returns whether that has failed for the first time.
+    fn note(&mut self, outcome: io::Result<()>) -> bool {
+        match outcome {
+            Ok(()) => false,
+            Err(fault) => {
+                self.has_failed = true;
+                self.note_first(Some(Failed::from(fault)))
+            }
         }
     }
 
-    /// Notes a failure, unless one was noted before.
-    fn note_first(&mut self, failure: Option<Failed>) {
-        if self.first.is_none() {
-            self.first = failure;
+    /// Notes a failure, if there was one, unless one was noted before. Returns whether it is the first.
+    fn note_first(&mut self, failure: Option<Failed>) -> bool {
+        if self.first.is_some() {
+            return false;
         }
+        self.first = failure;
+        failure.is_some()
+    }
+
+    /// Notes that another file is written.
+    fn renew(&mut self) {
+        self.has_failed = false;
     }
 
     /// The first failure, if there is one.
@@ -197,7 +208,9 @@ impl<'a, O: Makes + Copy + Drop> Film<'a, O> {
         }
         match self.keeper.sync() {
             Ok(()) => self.keeper.replace(),
-            Err(fault) => self.unsynced.note(Err(Failed::from(fault))),
+            Err(fault) => {
+                let _is_first = self.unsynced.note(Err(fault));
+            }
         }
         self.unsynced.first.is_some()
     }
@@ -209,9 +222,7 @@ impl<'a, O: Makes + Copy + Drop> Film<'a, O> {
             return false;
         }
         self.synced_frames = written;
-        let failed = self.failed();
-        self.sync_all();
-        self.failed() > failed
+        self.sync_all()
     }
 
     /// Brings the pieces that are finished onto the disk, and closes them. Returns whether one failed for the first time.
@@ -219,38 +230,41 @@ impl<'a, O: Makes + Copy + Drop> Film<'a, O> {
         let Some(cutting) = self.cutting else {
             return false;
         };
-        let failed = self.failed();
+        let mut is_news = false;
         for _piece in 0..u64::MAX {
             match cutting.chain.take() {
                 Some(next) => {
-                    self.sync_all();
+                    is_news = is_news | self.sync_all();
                     self.later = Some(next);
-                    self.unsynced.has_failed = false;
-                    self.unsynced_index.has_failed = false;
-                    self.unsynced_times.has_failed = false;
+                    self.unsynced.renew();
+                    self.unsynced_index.renew();
+                    self.unsynced_times.renew();
                 }
                 None => break,
             }
         }
-        let chain = cutting.chain;
-        self.unsynced.note_first(chain.unsynced(None));
-        self.unsynced_index.note_first(chain.unsynced(Some(Beside::Index)));
-        self.unsynced_times.note_first(chain.unsynced(Some(Beside::Times)));
-        self.failed() > failed
+        is_news | self.note_chain(cutting.chain)
     }
 
-    /// Syncs the files that are written, those beside the recording first.
-    fn sync_all(&mut self) {
-        self.sync_beside(Beside::Index);
-        self.sync_beside(Beside::Times);
-        self.sync();
+    /// Notes why finished pieces that the writing thread has brought onto the disk aren't there. Returns whether one failed
+    /// for the first time.
+    fn note_chain(&mut self, chain: &Chain<O>) -> bool {
+        let recording = self.unsynced.note_first(chain.unsynced(None));
+        let index = self
+            .unsynced_index
+            .note_first(chain.unsynced(Some(Beside::Index)));
+        let times = self
+            .unsynced_times
+            .note_first(chain.unsynced(Some(Beside::Times)));
+        recording | index | times
     }
 
-    /// In how many of a recording, its indexes and its times a sync has failed.
-    fn failed(&self) -> u8 {
-        u8::from(self.unsynced.first.is_some())
-            + u8::from(self.unsynced_index.first.is_some())
-            + u8::from(self.unsynced_times.first.is_some())
+    /// Syncs the files that are written, those beside the recording first. Returns whether one failed for the first time.
+    fn sync_all(&mut self) -> bool {
+        let index = self.sync_beside(Beside::Index);
+        let times = self.sync_beside(Beside::Times);
+        let recording = self.sync();
+        recording | index | times
     }
 
     /// Settles the files of a film that has ended, with a fault or without, and with this number of codestreams: syncs
@@ -265,7 +279,11 @@ impl<'a, O: Makes + Copy + Drop> Film<'a, O> {
                 if has_stopped {
                     self.give_back();
                 }
-                self.sync_all();
+                let _failed = (
+                    self.sync(),
+                    self.sync_beside(Beside::Index),
+                    self.sync_beside(Beside::Times),
+                );
                 let synced = Synced {
                     recording: self.unsynced.outcome(),
                     index: self.unsynced_index.outcome(),
@@ -315,26 +333,29 @@ impl<'a, O: Makes + Copy + Drop> Film<'a, O> {
         }
     }
 
-    /// Syncs the file of the recording that is written, unless that has failed.
-    fn sync(&mut self) {
-        if !self.unsynced.has_failed {
-            let outcome = failed_of(self.own().sync());
-            self.unsynced.note(outcome);
+    /// Syncs the file of the recording that is written, unless that has failed. Returns whether it failed for the first
+    /// time.
+    fn sync(&mut self) -> bool {
+        if self.unsynced.has_failed {
+            return false;
         }
+        let outcome = self.own().sync();
+        self.unsynced.note(outcome)
     }
 
     /// Syncs a file beside it likewise.
-    fn sync_beside(&mut self, beside: Beside) {
+    fn sync_beside(&mut self, beside: Beside) -> bool {
         let has_failed = match beside {
             Beside::Index => self.unsynced_index.has_failed,
             Beside::Times => self.unsynced_times.has_failed,
         };
-        if !has_failed {
-            let outcome = failed_of(self.own().sync_beside(beside));
-            match beside {
-                Beside::Index => self.unsynced_index.note(outcome),
-                Beside::Times => self.unsynced_times.note(outcome),
-            }
+        if has_failed {
+            return false;
+        }
+        let outcome = self.own().sync_beside(beside);
+        match beside {
+            Beside::Index => self.unsynced_index.note(outcome),
+            Beside::Times => self.unsynced_times.note(outcome),
         }
     }
 }

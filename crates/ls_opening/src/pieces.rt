@@ -1,7 +1,9 @@
 //! Writes a film's recording, which may be cut into pieces, each a file of its own with an index of its own.
 ghost use Rattle.std.specs.Prelude.{◌≡◌, []};
 ghost use Rattle.std.specs.Io.KnownBytes.{Keeps};
-ghost use Rattle.ls_opening.specs.View.Devices.{held_in_pieces, last_of, kept_of};
+ghost use Rattle.ls_frame.specs.View.Devices.{wrapped};
+ghost use Rattle.ls_archive.specs.View.Following.{recording_of};
+ghost use Rattle.ls_opening.specs.View.Devices.{finished_of, held_in_pieces, last_of, kept_of};
 
 use crate::chain::Chain;
 use crate::limited::Course;
@@ -21,7 +23,6 @@ pub type PieceWriter<'a, O> = Indexing<Counted<Target<'a, O>>, Counted<Target<'a
 pub type IndexFollower<'a, O> = Follower<Counted<Target<'a, O>>>;
 
 /// Where a film's recording is cut into pieces, and how they are handed on.
-#[derive(Drop)]
 pub struct Cutting<'a, O: Makes> {
     pub course: &'a Course,
     pub chain: &'a Chain<O>,
@@ -91,7 +92,7 @@ impl<'a, O: Makes + Copy + Drop> Pieces<'a, O> {
         piece: PieceWriter<'a, O>,
         succession: Option<Succession<'a, O>>,
     ) -> Pieces<'a, O>
-        ensures piece { result.piece ≡ piece }
+        ensures last { last_of result ≡ wrapped (recording_of piece) }
         ensures none { kept_of O.kept result ≡ [] }
     {
         Pieces {
@@ -104,20 +105,26 @@ impl<'a, O: Makes + Copy + Drop> Pieces<'a, O> {
 
     /// Returns its parts, once the film has ended.
     pub fn into_parts(self) -> Parts<'a, O>
-        ensures finished { result.finished ≡ self.finished }
+        ensures finished { result.finished ≡ finished_of self }
         ensures last { result.last ≡ last_of self }
     {
-        let (last, follower, fault) = self.piece.into_parts();
-        let (piece, unmade) = match &self.succession {
+        let Pieces {
+            piece,
+            finished,
+            broken,
+            succession,
+        } = self;
+        let (last, follower, fault) = piece.into_parts();
+        let (piece, unmade) = match &succession {
             Some(succession) => (succession.cutting.chain.begun(), succession.unmade),
             None => (0, None),
         };
         Parts {
-            finished: self.finished,
+            finished,
             last: last.into_inner(),
             follower,
             fault,
-            broken: self.broken,
+            broken,
             piece,
             unmade,
         }

@@ -15,7 +15,7 @@ use Rattle.ls_recorder.specs.declared.recording.Track.{Track}
 use Rattle.ls_recorder.specs.View.Lanes.{Records, StopsLane, RecordsBefore, tuned_file}
 use Rattle.ls_recorder.specs.View.Recordings.{IsTrack}
 use Rattle.ls_recorder.proofs.ListLemmas.{zip-more, zip-through, zip-weaker}
-use Rattle.ls_opening.specs.View.Devices.{FilmReader, FilmWriter, FilmDevices, left_of, target_of}
+use Rattle.ls_opening.specs.View.Devices.{FilmReader, FilmWriter, FilmDevices, finished_of, left_of, target_of}
 use Rattle.ls_recording.specs.declared.ending.EndedFiles.{EndedFiles}
 use Rattle.ls_recording.specs.View.Films.{IsComplete, HasTrack, IsWhole, IsRecorded, held, held_by, was_stopped}
 
@@ -35,7 +35,7 @@ fault-of (Err fault) = fault
 
 module _ {O F D : Type 0} (remaining contents : F → Option (List ℕ)) (kept : D → List ℕ) (count : Option ℕ) where
   -- the files of a film that has ended hold what its writer held
-  same-held : (files : EndedFiles O F D) (writer : FilmWriter O F D) → files.finished ≡ (wrapped writer).finished → files.open.recording ≡ target_of writer
+  same-held : (files : EndedFiles O F D) (writer : FilmWriter O F D) → files.finished ≡ finished_of (wrapped writer) → files.open.recording ≡ target_of writer
       → held contents kept writer ≡ held_by contents kept files
   same-held files writer finished last = λ i. joined_in kept contents (sym finished i) (sym last i)
 

@@ -63,9 +63,11 @@ where
         Err(refusal) => return refusal.say(program.console),
     };
     let alloc = program.rt.alloc();
-    let courses = Course::of_each(alloc, names.len(), asked.count, asked.times, asked.pieces);
-    let cut = if asked.pieces.is_some() { names.len() } else { 0 };
-    let (Ok(courses), Ok(chains)) = (courses, Chain::of_each(alloc, cut)) else {
+    let Ok(courses) = Course::of_each(alloc, names.len(), asked.count, asked.times, asked.pieces)
+    else {
+        return no_memory(program.console);
+    };
+    let Ok(chains) = Chain::<O>::of_each(alloc, chains_of(&asked, names.len())) else {
         return no_memory(program.console);
     };
     match open_films(
@@ -80,6 +82,11 @@ where
         Ok(opened) => record_opened(program, &asked, &courses, opened),
         Err(refusal) => refusal.say(program.console),
     }
+}
+
+/// The number of films whose recordings are cut into pieces, of as many as there are.
+fn chains_of(asked: &RecordRequest<'_>, films: usize) -> usize {
+    if asked.pieces.is_some() { films } else { 0 }
 }
 
 /// Records films whose files are open, says how each ended, writes the report, and returns the status. With `DONE` each

@@ -19,14 +19,18 @@ module _ {O F D : Type 0} where
   abbrev pub last_of : Pieces O F D → Target O F
   last_of pieces = wrapped (recording_of pieces.piece)
 
+  -- the finished pieces
+  abbrev pub finished_of : Pieces O F D → D
+  finished_of pieces = pieces.finished
+
   module _ (kept : D → List ℕ) where
     -- what is known of the bytes of finished pieces
     abbrev pub kept_of : Pieces O F D → List ℕ
-    kept_of pieces = kept pieces.finished
+    kept_of pieces = kept (finished_of pieces)
 
     -- what is known of the bytes of a recording: of its pieces, one after the other
     abbrev pub held_in_pieces : (F → Option (List ℕ)) → Pieces O F D → Option (List ℕ)
-    held_in_pieces contents pieces = joined_in kept contents pieces.finished (last_of pieces)
+    held_in_pieces contents pieces = joined_in kept contents (finished_of pieces) (last_of pieces)
 
 -- the reader of a film, which may be limited; the writer of its recording; and both with the film's tuning
 abbrev pub FilmReader : (O F : Type 0) → Type 0

@@ -13,7 +13,7 @@ use Rattle.ls_files.specs.View.Files.{joined_in}
 use Rattle.ls_frame.specs.View.Devices.{wrapped}
 use Rattle.ls_command.specs.declared.RecordRequest.{RecordRequest}
 use Rattle.ls_opening.specs.declared.names.Names.{Names}
-use Rattle.ls_opening.specs.View.Devices.{FilmReader, FilmWriter, FilmDevices, AreDevicesOf, held_in_pieces, left_of, source_of, target_of}
+use Rattle.ls_opening.specs.View.Devices.{FilmReader, FilmWriter, FilmDevices, AreDevicesOf, finished_of, held_in_pieces, left_of, source_of, target_of}
 use Rattle.ls_pieces.specs.Orders.{Ordered}
 use Rattle.ls_recorder.specs.declared.faults.RecordFault.{RecordFault}
 use Rattle.ls_recorder.specs.declared.faults.RecordFault.TheVariants as refusal
@@ -58,7 +58,7 @@ module _ {O F D : Type 0} where
   pub record IsWhole (count : Option ℕ) (track : Track (FilmReader O F) (FilmWriter O F D)) (files : EndedFiles O F D) : Type 0 where
     pub frames : ℕ
     pub complete : IsComplete count track.result (was_stopped track.reader) frames
-    pub finished : files.finished ≡ (wrapped track.writer).finished
+    pub finished : files.finished ≡ finished_of (wrapped track.writer)
     pub last : files.open.recording ≡ target_of track.writer
 
   module _ (remaining contents : F → Option (List ℕ)) (kept : D → List ℕ) (count : Option ℕ) where
