@@ -332,7 +332,10 @@ impl<O: Makes + Copy + Drop> Keeper<O> {
                     self.give_row_back();
                     return Ok(false);
                 }
-                Err(fault) => return Err(Unmade::recording(fault)),
+                Err(fault) => {
+                    self.give_row_back();
+                    return Err(Unmade::recording(fault));
+                }
             }
         }
         self.clear_beside(alloc, number)
@@ -454,11 +457,6 @@ impl<O: Makes + Copy + Drop> Keeper<O> {
             self.give_row_back();
             self.give_back_beside();
         }
-    }
-
-    /// Whether the recording's file has no bytes, and stays so: if it is closed now, nothing is lost.
-    pub fn is_empty(&self) -> bool {
-        !self.recording.has_bytes()
     }
 
     fn give_back_beside(&mut self) {

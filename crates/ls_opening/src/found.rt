@@ -180,8 +180,8 @@ fn is_at(film: &Found<'_>, place: &Place<'_>) -> bool {
 }
 
 /// The number of pieces of an earlier recording that are renamed with it: those with numbers from 1 on, as far as they are
-/// there and neither they nor files beside them are one of the films or the report; none if the recording is written into a
-/// pipe, a device or an open file.
+/// there and neither they nor files beside them are one of the films, another film's recording or the report; none if the
+/// recording is written into a pipe, a device or an open file.
 pub fn pieces_to_claim<R: Files + AllocGlobal>(
     rt: &R,
     film: &Found<'_>,
@@ -200,7 +200,7 @@ pub fn pieces_to_claim<R: Files + AllocGlobal>(
 }
 
 /// Whether the piece of this number of an earlier recording is there, and neither it nor a file beside it is one of the
-/// films or the report.
+/// films, another film's recording or the report.
 fn has_piece<R: Files + AllocGlobal>(
     rt: &R,
     film: &Found<'_>,
@@ -211,14 +211,24 @@ fn has_piece<R: Files + AllocGlobal>(
     let alloc = rt.alloc();
     let path = piece_path(alloc, film.names.recording.as_str(), number)?;
     let place = Place::of(rt, &path);
-    if !place.standing().is_kept() || is_given(&place, films, report) {
+    if !place.standing().is_kept() || is_spoken_for(&place, films, report) {
         return Ok(false);
     }
     for ending in [INDEX, TIMES] {
         let path = format!(in alloc; "{path}{ending}")?;
-        if is_given(&Place::of(rt, &path), films, report) {
+        if is_spoken_for(&Place::of(rt, &path), films, report) {
             return Ok(false);
         }
     }
     Ok(true)
+}
+
+/// Whether the file at a place is one of the films or the report, or a film's recording, or beside one.
+fn is_spoken_for(place: &Place<'_>, films: &[Found<'_>], report: Option<&Place<'_>>) -> bool {
+    is_given(place, films, report)
+        || films.iter().any(|film| {
+            film.place.is_one_with(place)
+                || film.index.is_one_with(place)
+                || film.times.is_one_with(place)
+        })
 }

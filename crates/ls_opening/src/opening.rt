@@ -64,7 +64,7 @@ pub fn open_films<'a, R, O, E>(
 ) -> Result<Opened<'a, O>, Refusal<'a>>
 where
     R: Files + AllocGlobal + Wait,
-    O: Makes<File = R::File> + Copy + Drop,
+    O: Makes<File = R::File> + Copy + Drop + 'a,
     E: Outlet,
     ensures { IfOk result (λ opened. AllZip (AreDevicesOf O.holds R.File.remaining O.kept opener asked.now.tuning) names.now opened.devices.items) }
 {
@@ -127,7 +127,7 @@ struct Made<'a, O: Makes> {
 impl<'o, 'a, R, O> Opening<'o, 'a, R, O>
 where
     R: Files + AllocGlobal + Wait,
-    O: Makes<File = R::File> + Copy + Drop,
+    O: Makes<File = R::File> + Copy + Drop + 'a,
 {
     /// Opens the films' files.
     fn open_sources(&self) -> Result<Vec<Source<'a, O>>, Refusal<'a>>
