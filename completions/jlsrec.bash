@@ -24,7 +24,7 @@ _jlsrec() {
     replay) options+=' --sources --capacity' ;;
     esac
     case $before in
-    --workers | --queue | --window | --sources | --capacity | --preset | --frames | --count | --for | --sync) COMPREPLY=() ;;
+    --workers | --queue | --window | --sources | --capacity | --preset | --frames | --pieces | --count | --for | --sync) COMPREPLY=() ;;
     --into) mapfile -t COMPREPLY < <(compgen -d -- "$word") ;;
     *)
         if [[ $word == -* ]]; then
