@@ -54,5 +54,7 @@ pub use film::{Film, Synced, failed_of};
 pub use limited::{Course, Limited};
 pub use names::{Names, names_once};
 pub use opening::{Devices, Opened, Writer, open_films};
-pub use pieces::{BrokenIndex, Cutting, IndexFollower, Parts, PieceWriter, Pieces, Succession};
+pub use pieces::{
+    BesideParts, BrokenIndex, Cutting, IndexFollower, Parts, PieceWriter, Pieces, Succession,
+};
 pub use refusal::Refusal;

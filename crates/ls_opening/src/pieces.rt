@@ -61,6 +61,14 @@ pub struct Parts<'a, O: Makes> {
     /// The pieces that were finished, and the last one.
     pub finished: O::Finished,
     pub last: Target<'a, O>,
+    pub beside: BesideParts<'a, O>,
+    /// Why a piece after the last couldn't be made, and its number, if that is so.
+    pub unmade: Option<(u32, io::Error)>,
+}
+
+/// What there is of the indexes of a recording whose film has ended.
+#[derive(Drop)]
+pub struct BesideParts<'a, O: Opens> {
     /// The index of the last piece, if it has one, and why it stopped early, if it did.
     pub follower: Option<IndexFollower<'a, O>>,
     pub fault: Option<IndexFault>,
@@ -68,8 +76,6 @@ pub struct Parts<'a, O: Makes> {
     pub broken: Option<BrokenIndex<'a, O>>,
     /// The number of the last piece.
     pub piece: u32,
-    /// Why a piece after it couldn't be made, and its number, if that is so.
-    pub unmade: Option<(u32, io::Error)>,
 }
 
 /// A recording, which is written to one file, or to pieces, one after the other. The next one is begun, if it is due, when
@@ -122,10 +128,12 @@ impl<'a, O: Makes + Copy + Drop> Pieces<'a, O> {
         Parts {
             finished,
             last: last.into_inner(),
-            follower,
-            fault,
-            broken,
-            piece,
+            beside: BesideParts {
+                follower,
+                fault,
+                broken,
+                piece,
+            },
             unmade,
         }
     }
