@@ -29,12 +29,17 @@ pub fn is_piece_name(name: &str, recording: &str) -> bool {
     let name = name
         .strip_suffix(INDEX)
         .unwrap_or(name.strip_suffix(TIMES).unwrap_or(name));
-    let (Some(front), Some(stem)) = (name.strip_suffix(RECORDING), recording.strip_suffix(RECORDING)) else {
+    let (Some(front), Some(stem)) = (
+        name.strip_suffix(RECORDING),
+        recording.strip_suffix(RECORDING),
+    ) else {
         return false;
     };
     match front.rsplit_once('.') {
         Some((own, digits)) => {
-            own == stem && digits.len() >= DIGITS && digits.bytes().all(|digit| digit.is_ascii_digit())
+            own == stem
+                && digits.len() >= DIGITS
+                && digits.bytes().all(|digit| digit.is_ascii_digit())
         }
         None => false,
     }

@@ -12,9 +12,8 @@ use ls_archive::{Follower, IndexFault, Indexing};
 use ls_files::{Keeper, Makes, Opens, Piece, Target};
 use ls_frame::Counted;
 use std::alloc::{AllocError, Global};
-use std::io;
 use std::io::Write;
-use std::mem;
+use std::{io, mem};
 
 /// The writer of a piece, and of its index if it has one.
 pub type PieceWriter<'a, O> = Indexing<Counted<Target<'a, O>>, Counted<Target<'a, O>>>;

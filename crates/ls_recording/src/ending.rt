@@ -133,7 +133,9 @@ where
             let own_times = take_times(rt, times, number);
             let was_told = is_told(&told, number);
             let alloc = rt.alloc();
-            let end = say_end(alloc, film, track, own_times, count, written, was_told, console);
+            let end = say_end(
+                alloc, film, track, own_times, count, written, was_told, console,
+            );
             are_whole = are_whole & end.is_whole;
             files.push(end.files)?;
         }
@@ -363,11 +365,13 @@ where
     O: Makes + Copy + Drop,
     E: Outlet,
 {
-    if let Some(BrokenIndex {
-        piece,
-        follower,
-        fault,
-    }) = broken
+    if let Some(
+        BrokenIndex {
+            piece,
+            follower,
+            fault,
+        },
+    ) = broken
     {
         let _target = end_index(alloc, film, piece, follower, Ok(()), Some(fault), console);
     }
@@ -424,11 +428,13 @@ where
         broken,
         ..
     } = times;
-    if let Some(BrokenTimes {
-        piece,
-        output,
-        fault,
-    }) = broken
+    if let Some(
+        BrokenTimes {
+            piece,
+            output,
+            fault,
+        },
+    ) = broken
     {
         let fault = Some(fault);
         let _target = end_times_of(alloc, film, piece, output, Ok(()), fault, console);

@@ -76,12 +76,12 @@ module _ {O F D : Type 0} where
 
 module _ {O F D : Type 0} (holds : O → List ℕ → Option (List ℕ) → Type 0) (remaining contents : F → Option (List ℕ)) (kept : D → List ℕ) (opener : O) (tuning : Tuning)
     (count : Option ℕ) where
-    -- Each of these films was recorded, in their order: read from its own file, and written to the file at the path of its own recording, or to pieces of
-    -- which that file is the first.
-    pub record HasRecorded (films : List (Bor (List ℕ))) : Type 0 where
-      pub names : List Names
-      pub devices : List (FilmDevices O F D)
-      pub files : List (EndedFiles O F D)
-      pub named : AllZip (λ film own. own.file.now ≡ film.now) films names
-      pub opened : AllZip (AreDevicesOf holds remaining kept opener tuning) names devices
-      pub recorded : AllZip (IsRecorded remaining contents kept count) devices files
+  -- Each of these films was recorded, in their order: read from its own file, and written to the file at the path of its own recording, or to pieces of
+  -- which that file is the first.
+  pub record HasRecorded (films : List (Bor (List ℕ))) : Type 0 where
+    pub names : List Names
+    pub devices : List (FilmDevices O F D)
+    pub files : List (EndedFiles O F D)
+    pub named : AllZip (λ film own. own.file.now ≡ film.now) films names
+    pub opened : AllZip (AreDevicesOf holds remaining kept opener tuning) names devices
+    pub recorded : AllZip (IsRecorded remaining contents kept count) devices files

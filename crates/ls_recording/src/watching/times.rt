@@ -5,11 +5,10 @@ use ls_frame::{Counted, write_bytes};
 use ls_opening::Cutting;
 use ls_recorder::MOST_WINDOW;
 use std::alloc::{AllocError, Global};
-use std::fmt;
 use std::fmt::{Display, Formatter};
-use std::mem;
 use std::sync::atomic::{AtomicU64, Ordering};
 use std::sync::{Mutex, Wait};
+use std::{fmt, mem};
 
 /// Why not all times of a film were written.
 #[derive(Clone, Copy)]
