@@ -47,7 +47,8 @@ struct Finished<'a, O: Makes> {
 
 /// Records the films that are asked for, says how each ended, and returns the status. On a terminal progress is always
 /// shown. With `DONE` each film was recorded from its own file to its own recording, or to pieces that are the recording
-/// one after the other, with the tuning asked for: to its end, as far as it was read when the program was asked to stop, or as many frames of it as are asked for.
+/// one after the other, with the tuning asked for: to its end, as far as it was read when the program was asked to stop, or as
+/// many frames of it as are asked for.
 pub fn record_films<R, O, W, E>(program: Program<'_, R, O, W, E>, asked: RecordRequest<'_>) -> u8
 where
     R: Host + Clock + Threads + Wait + Sync,
