@@ -1,6 +1,6 @@
 //! The program's messages about its files and devices, and the statuses that it exits with.
 //!
-//! What it hands on: a `Console` writes messages on standard error, and a progress line on a terminal. A `Program` is
+//! What it hands on: a `Console` writes messages on standard error, and progress on a terminal. A `Program` is
 //! what each command works with: its runtime, which is a `Host`, the opener of its files, standard output and the
 //! console. A `Reader` reads a film or a recording, and the `Cause` of a fault decides what more is said of it. `DONE`,
 //! `FAILED` and `USAGE` are the statuses; `Shown` makes a file name printable; `Lines` is a writer with a buffer, and
