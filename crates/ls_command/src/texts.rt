@@ -261,7 +261,7 @@ disk";
 
 pub const PROGRESS_HELP: &str = "\
 Report on standard error how far each film is, twice a second, and immediately when one stops;
-on a terminal this is always reported, in one line";
+on a terminal this is always reported, in its place";
 
 pub const REPORT_HELP: &str = "\
 The file for a report, created before anything is recorded and written at the end: for each film its frames, bytes,
