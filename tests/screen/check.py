@@ -8,7 +8,6 @@ import select
 import struct
 import sys
 import termios
-import threading
 import time
 import unicodedata
 
@@ -124,7 +123,8 @@ class Watched:
                 del environment["LINES"]
             os.execve(program, [program, "record", *words, *films], environment)
         self.process = process
-        fcntl.ioctl(self.terminal, termios.TIOCSWINSZ, struct.pack("HHHH", height, width, 0, 0))
+        if told:
+            fcntl.ioctl(self.terminal, termios.TIOCSWINSZ, struct.pack("HHHH", height, width, 0, 0))
 
     def look(self, seconds):
         """Looks on for so many seconds, or to the end. Answers whether it is at its end."""
