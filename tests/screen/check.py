@@ -168,8 +168,8 @@ class Watched:
 
     may_wrap = 0
 
-    def end(self, *last):
-        """The end: nothing of progress is left, and these lines are the last ones."""
+    def end(self, *left):
+        """The end: nothing of progress is left, and each of these lines is there once."""
         while not self.look(1):
             pass
         _, status = os.waitpid(self.process, 0)
@@ -177,9 +177,9 @@ class Watched:
         lines = [line for line in self.screen.above + self.screen.lines() if line]
         holds = not self.faults and not self.screen.odd
         count(f"{self.name}: what is shown", holds, (self.faults[:1], self.screen.odd))
-        count(f"{self.name}: what is left", lines[len(lines) - len(last):] == list(last), lines)
-        left = [line for line in lines if re.search("waits for its|waiting,", line)]
-        count(f"{self.name}: no progress is left", not left, left)
+        count(f"{self.name}: what is left", all(lines.count(line) == 1 for line in left), lines)
+        over = [line for line in lines if re.search("waits for its|waiting,", line)]
+        count(f"{self.name}: no progress is left", not over, over)
         return os.waitstatus_to_exitcode(status)
 
 
@@ -225,7 +225,7 @@ for height, width, films in [(24, 80, 16), (24, 40, 16), (24, 200, 16), (24, 80,
         closed(name)
         if number % 5 == 0:
             watched.look(0.3)
-    status = watched.end(f"{names[-1]}: 6 frames")
+    status = watched.end(*[f"{name}: 6 frames" for name in names if width >= 40])
     count(f"{watched.name}: it was shown", status == 0 and watched.times >= 4, (status, watched.times))
 
 # ---- messages in between: pipes that are opened late, films that end by a fault, and others that are done
@@ -285,7 +285,7 @@ for name, height, told, films in [("23 lines", 23, True, 2), ("17 lines", 17, Tr
     watched.look(1.5)
     for camera in names:
         closed(camera)
-    status = watched.end(f"{names[-1]}: 1 frames")
+    status = watched.end(*[f"{camera}: 1 frames" for camera in names])
     shown = "".join(watched.texts)
     holds = status == 0 and "\x1b" not in shown and "\rone0: " in shown
     count(f"{name}: as a line", holds, shown)
