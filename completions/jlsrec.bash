@@ -20,7 +20,7 @@ _jlsrec() {
     verify) options+=' --workers --strict' ;;
     index) options+=' --beside --no-sums' ;;
     code) options+=' --index' ;;
-    check) options+=' --index --beside --workers --strict' ;;
+    check) options+=' --index --beside --frames --workers --strict' ;;
     replay) options+=' --sources --capacity' ;;
     esac
     case $before in

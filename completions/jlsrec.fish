@@ -37,6 +37,7 @@ complete -c jlsrec -n '__fish_seen_subcommand_from index' -l beside -d 'Write th
 complete -c jlsrec -n '__fish_seen_subcommand_from index' -l no-sums -d 'Leave the sum out'
 complete -c jlsrec -n '__fish_seen_subcommand_from check' -r -l index -d 'The index of the recording'
 complete -c jlsrec -n '__fish_seen_subcommand_from check' -l beside -d 'Check each recording by the index beside it'
+complete -c jlsrec -n '__fish_seen_subcommand_from check' -x -l frames -d 'The codestreams to check, with --index: A, A.., ..B or A..B'
 complete -c jlsrec -n '__fish_seen_subcommand_from check' -x -l workers -d 'How many workers decode, 1 to 16'
 complete -c jlsrec -n '__fish_seen_subcommand_from check' -l strict -d 'Report codestreams that are not exactly what encoding gives'
 complete -c jlsrec -n '__fish_seen_subcommand_from replay' -x -l sources -d 'How many sources the queue has, 1 to 16'

@@ -8,8 +8,8 @@ use ls_files::{Locks, Makes};
 use ls_film::Part;
 use ls_frame::{Counted, Outlet, keep_blocks};
 use ls_reading::{
-    check_each, check_recording, code, code_with_index, index, index_beside, list, replay_file,
-    show, show_into, show_listed, show_whole, verify_pairs,
+    check_each, check_part, check_recording, code, code_with_index, index, index_beside, list,
+    replay_file, show, show_into, show_listed, show_whole, verify_pairs,
 };
 use ls_recording::record_films;
 use std::alloc::{AllocError, Global};
@@ -99,6 +99,12 @@ where
                     workers,
                     strict,
                 } => check_recording(program, file, index, workers, strict),
+                Request::CheckPart {
+                    file,
+                    index,
+                    frames,
+                    workers,
+                } => check_part(program, file, index, part_of(frames), workers),
                 Request::CheckEach {
                     files,
                     beside,

@@ -1,5 +1,6 @@
 pub mod BatchLemmas
 pub mod CheckLemmas
+pub mod CheckedPartLemmas
 pub mod CodedLemmas
 pub mod ColumnLemmas
 pub mod ComparingLemmas

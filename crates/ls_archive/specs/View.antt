@@ -1,5 +1,6 @@
 -- How the code's values (readers, writers, faults) are seen as recordings, indexes and verdicts.
 pub mod Batches
+pub mod CheckedLines
 pub mod Checking
 pub mod Checks
 pub mod Coded

@@ -48,6 +48,7 @@ pub mod places;
 pub mod strict;
 pub mod verifying;
 
+pub use checking::part::{CheckPartFault, check_listed, check_listed_by};
 pub use checking::{CheckFault, Checked, Damage, Finding, Findings, check, check_by};
 pub use coding::{CodedFilm, code_film_with_index};
 pub use faults::{IndexFault, VerifyFault};

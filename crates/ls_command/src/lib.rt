@@ -39,11 +39,11 @@ use preset::tuning_of;
 use std::alloc::{AllocError, Global};
 use texts::{
     BAD_PRESET, BEGINNING, BESIDE_WANTED, CHECKERS_WANTED, COMMAND_WANTED, FRAMES_OR_SALVAGE,
-    FRAMES_WANTED, INDEX_OF_ONE, INDEX_OR_BESIDE, INTO_OR_INDEX, INTO_OR_SALVAGE, INTO_WANTED,
-    PAIRS_WANTED, PLAYERS_WANTED, SALVAGE_WANTED, TOO_MANY_FILMS,
+    FRAMES_OR_STRICT, FRAMES_WANTED, INDEX_OF_ONE, INDEX_OR_BESIDE, INDEX_WANTED, INTO_OR_INDEX,
+    INTO_OR_SALVAGE, INTO_WANTED, PAIRS_WANTED, PLAYERS_WANTED, SALVAGE_WANTED, TOO_MANY_FILMS,
 };
 
-/// A request, one variant for each command; but `play` has four, and `index` and `check` two each.
+/// A request, one variant for each command; but `play` has four, `check` three, and `index` two.
 #[derive(Drop)]
 pub enum Request<'a> {
     /// List the frames of a film.
@@ -101,6 +101,14 @@ pub enum Request<'a> {
         workers: u8,
         /// Whether its codestreams must be strict, too.
         strict: bool,
+    },
+    /// Look for damage in some codestreams of a recording, which are found by its index.
+    CheckPart {
+        file: &'a str,
+        index: &'a str,
+        frames: Frames,
+        /// The number of workers that decode.
+        workers: u8,
     },
     /// Look for damage in each of several recordings; or in one, by the index beside it.
     CheckEach {
@@ -451,6 +459,23 @@ fn read_check<'a>(words: &ArgMatches<'a>, files: Vec<&'a str>) -> Result<Request
         return Err(CHECKERS_WANTED);
     }
     let strict = words.get_flag("strict");
+    if let Some(frames) = frames_of(words, false)? {
+        let Some(index) = index else {
+            return Err(INDEX_WANTED);
+        };
+        if strict {
+            return Err(FRAMES_OR_STRICT);
+        }
+        return match only(&files) {
+            Some(file) => Ok(Request::CheckPart {
+                file,
+                index,
+                frames,
+                workers,
+            }),
+            None => Err(INDEX_OF_ONE),
+        };
+    }
     match only(&files) {
         Some(file) if !beside => Ok(Request::Check {
             file,

@@ -168,6 +168,15 @@ pub const CHECK_BESIDE_HELP: &str = "\
 Check each FILE by the index beside it, FILE.index, as `record --index` and `index --beside` write it; a FILE without
 one is at fault";
 
+pub const FRAMES_OF_CHECK_HELP: &str = "\
+With --index: the codestreams to check, as for `play`: A..B, A, A.. or ..B. Only their lines and bytes are read, whatever
+comes after them in FILE, so that FILE may still be written. A.. ends with INDEX, or before a last line that isn't written
+whole; if INDEX has just A lines, nothing is checked, and the status is 0";
+
+pub const INDEX_WANTED: &str = "--frames goes only with --index";
+
+pub const FRAMES_OR_STRICT: &str = "--frames and --strict don't go together";
+
 pub const INDEX_OR_BESIDE: &str = "--index and --beside don't go together";
 
 pub const INDEX_OF_ONE: &str = "--index goes only with one FILE; --beside goes with several";

@@ -1,7 +1,7 @@
 //! The causes of faults, and what is said when an engine over a file stops.
 ghost use Rattle.std.specs.Prelude.{◌≡◌, MatchResult};
 
-use ls_archive::{CheckFault, IndexFault, ListedFault, VerifyFault};
+use ls_archive::{CheckFault, CheckPartFault, IndexFault, ListedFault, VerifyFault};
 use ls_console::{Cause, Console, DONE, FAILED, Reader, Shown, cause_of_input, explain};
 use ls_files::Opens;
 use ls_film::{FilmFault, PartFault, PlayFault};
@@ -72,6 +72,15 @@ impl Caused for CheckFault {
             CheckFault::Io => Cause::Reading,
             CheckFault::IndexIo => Cause::Reading,
             _ => Cause::Other,
+        }
+    }
+}
+
+impl Caused for CheckPartFault {
+    fn cause(&self) -> Cause {
+        match self {
+            CheckPartFault::Check(fault) => fault.cause(),
+            CheckPartFault::TooFew(_) => Cause::Other,
         }
     }
 }
