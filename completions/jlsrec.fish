@@ -31,6 +31,7 @@ complete -c jlsrec -n '__fish_seen_subcommand_from play' -x -l frames -d 'The fr
 complete -c jlsrec -n '__fish_seen_subcommand_from play' -x -l workers -d 'How many workers decode, 1 to 16'
 complete -c jlsrec -n '__fish_seen_subcommand_from play' -l salvage -d 'Go on after a codestream at fault'
 complete -c jlsrec -n '__fish_seen_subcommand_from play' -r -l index -d 'The index by which lost frames are reported'
+complete -c jlsrec -n '__fish_seen_subcommand_from verify' -x -l frames -d 'The frames to compare: A, A.., ..B or A..B'
 complete -c jlsrec -n '__fish_seen_subcommand_from verify' -x -l workers -d 'How many workers decode, 1 to 16'
 complete -c jlsrec -n '__fish_seen_subcommand_from verify' -l strict -d 'Report codestreams that are not exactly what encoding gives'
 complete -c jlsrec -n '__fish_seen_subcommand_from index' -l beside -d 'Write the index of each recording beside it'

@@ -1,4 +1,4 @@
-"""Runs `check` with `--frames` over recordings and indexes: part.py PROGRAM, in a folder of its own. Prints each case that
+"""Runs `check` and `verify` with `--frames` over recordings and indexes: part.py PROGRAM, in a folder of its own. Prints each case that
 fails, and how many passed. Indexes are written here, by hashlib, and images by the codestreams' authors."""
 
 import hashlib
@@ -199,4 +199,52 @@ for first in (number - 10, number):
     took = least(*check(f"{first}..", "long.index", "long.jls"))
     count(f"from {first} of 600,000 frames on within 30 ms more than the program's start", took < begun + 0.03, (begun, took))
 
+# ---- a part that is compared with the film
+
+
+def verify(part, film="film", name="film.jls"):
+    return ("verify", "--frames", part, film, name)
+
+
+for first in range(len(frames) + 1):
+    says(0, "", "", *verify(f"{first}.."))
+    for last in range(first, len(frames)):
+        says(0, "", "", *verify(f"{first}..{last}"))
+few = f"jlsrec: film: only {len(frames)} frames\n"
+says(1, "", few, *verify(f"{len(frames) + 1}.."))
+says(1, "", few, *verify(str(len(frames))))
+says(1, "", few, *verify(f"3..{len(frames)}"))
+for number in range(len(frames)):
+    other = frames[:number] + [WHITE] + frames[number + 1 :]
+    if frames[number][0] == WHITE[0]:
+        continue
+    write("other.jls", recording(other))
+    for first in range(len(frames)):
+        for last in (first, min(first + 3, len(frames) - 1), None):
+            inside = first <= number <= (len(frames) if last is None else last)
+            status, shown, said = cases.run(*verify(f"{first}.." if last is None else f"{first}..{last}", name="other.jls"))
+            right = said.startswith(f"jlsrec: other.jls: frame {number} differs: ") if inside else not said
+            count(f"{number} in {first} to {last}", status == int(inside) and not shown and right, (status, shown, said))
+write("again.jls", recording([BLACK_AGAIN if it is BLACK else it for it in frames]))
+says(0, "", "", *verify("2..", name="again.jls"))
+write("short.jls", recording(frames[:6]))
+write("short", film(frames[:6]))
+says(0, "", "", *verify("2..5", name="short.jls"))
+says(1, "", "jlsrec: short.jls: frame 6 is missing\n", *verify("2..", name="short.jls"))
+says(1, "", "jlsrec: short.jls: frame 6 is missing\n", *verify("6..", name="short.jls"))
+says(1, "", "jlsrec: short.jls: only 6 frames\n", *verify("7..", name="short.jls"))
+says(1, "", "jlsrec: film.jls: frame 6 is too many\n", *verify("2..", "short"))
+says(0, "", "", *verify("2..5", "short"))
+says(1, "", "jlsrec: short: only 6 frames\n", *verify("7..", "short"))
+# A codestream that is written in part, after the part and in it.
+write("torn.jls", recording(frames[:6]) + frames[6][0][:-1])
+says(0, "", "", *verify("..5", name="torn.jls"))
+status, shown, said = cases.run(*verify("2..", name="torn.jls"))
+count("a part with a codestream that is cut off", (status, shown) == (1, b"") and said.startswith("jlsrec: torn.jls: frame 6: "), (status, shown, said))
+write("cut", film(frames[:6])[:-1])
+says(1, "", "jlsrec: cut: frame 5: truncated\n", *verify("3..", "cut"))
+says(1, "", "jlsrec: cut: frame 5: truncated\n", *verify("7..", "cut"))
+says(0, "", "", *verify("3..4", "cut"))
+says(1, "", "jlsrec: none: can't open\n", *verify("0", "none"))
+says(1, "", "jlsrec: none.jls: can't open\n", *verify("0", name="none.jls"))
 cases.end()

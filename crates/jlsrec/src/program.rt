@@ -9,7 +9,7 @@ use ls_film::Part;
 use ls_frame::{Counted, Outlet, keep_blocks};
 use ls_reading::{
     check_each, check_part, check_recording, code, code_with_index, index, index_beside, list,
-    replay_file, show, show_into, show_listed, show_whole, verify_pairs,
+    replay_file, show, show_into, show_listed, show_whole, verify_files_part, verify_pairs,
 };
 use ls_recording::record_films;
 use std::alloc::{AllocError, Global};
@@ -116,6 +116,9 @@ where
                     workers,
                     strict,
                 } => verify_pairs(program, &pairs, workers, strict),
+                Request::VerifyPart { film, file, frames } => {
+                    verify_files_part(program, film, file, part_of(frames))
+                }
                 Request::Record(asked) => record_films(program, asked),
                 Request::Replay {
                     sources,

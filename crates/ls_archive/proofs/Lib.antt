@@ -17,4 +17,5 @@ pub mod PlaceLemmas
 pub mod StrictLemmas
 pub mod VerdictLaws
 pub mod VerdictLemmas
+pub mod VerifiedPartLemmas
 pub mod VerifyLemmas

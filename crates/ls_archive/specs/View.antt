@@ -12,4 +12,5 @@ pub mod Indexing
 pub mod Listed
 pub mod Places
 pub mod Strict
+pub mod VerifiedParts
 pub mod Verifying

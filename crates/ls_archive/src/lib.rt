@@ -57,4 +57,5 @@ pub use index::{index_bytes, write_index};
 pub use listed::{ListedFault, pass_line_end, pass_lines, play_listed};
 pub use places::{Wanted, find_places, read_index};
 pub use strict::{Strict, read_strict};
+pub use verifying::part::{VerifyPartFault, verify_part};
 pub use verifying::{Difference, Verdict, verify, verify_by, verify_bytes};

@@ -68,4 +68,5 @@ recording_asked words tuning files preset text reads named few (Some (request.Ch
 recording_asked words tuning files preset text reads named few (Some (request.CheckPart file index frames workers)) has = absurd has
 recording_asked words tuning files preset text reads named few (Some (request.CheckEach recordings beside workers strict)) has = absurd has
 recording_asked words tuning files preset text reads named few (Some (request.Verify pairs workers strict)) has = absurd has
+recording_asked words tuning files preset text reads named few (Some (request.VerifyPart film file frames)) has = absurd has
 recording_asked words tuning files preset text reads named few (Some (request.Replay sources capacity file)) has = absurd has

@@ -205,6 +205,14 @@ Further pairs FILM FILE may follow. A line on standard output then reports each 
   FILE: the same
 and the status is 0 only if all are. A pair that isn't keeps none of the others from being compared.";
 
+pub const FRAMES_OF_VERIFY_HELP: &str = "\
+The frames to compare, as for `play`: A..B, A, A.. or ..B. Those before A are passed over, the recording's by their
+markers, and none after B is read. A.. compares up to the end of both, where both may have just A frames";
+
+pub const FRAMES_OF_ONE: &str = "--frames goes only with one FILM and its FILE";
+
+pub const VERIFIERS_WANTED: &str = "--workers and --frames don't go together";
+
 pub const PAIRS_WANTED: &str = "each FILM goes with a FILE: the last FILM has none";
 
 pub const VERIFIERS_HELP: &str = "\

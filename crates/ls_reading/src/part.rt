@@ -1,22 +1,26 @@
-//! The command `check` for a part of a recording.
+//! The commands `check` and `verify` for a part of a recording.
 ghost use Rattle.std.specs.Prelude.{◌≡◌, IfOk};
 ghost use Rattle.ls_archive.specs.View.CheckedLines.{IsCheckedPart};
+ghost use Rattle.ls_archive.specs.View.VerifiedParts.{FindsPart};
 ghost use Rattle.ls_reading.specs.View.Commands.{IsPart};
-ghost use Rattle.ls_reading.specs.View.Parts.{PassesPartCheck};
+ghost use Rattle.ls_reading.specs.View.Parts.{PassesPartCheck, HaveSamePart};
 ghost use Rattle.ls_reading.specs.View.Statuses.{DoneOrFailed};
 
-use crate::archive::{Checks, Report, find_moved, is_of_index, is_read_twice};
+use crate::archive::{Checks, Report, find_moved, is_of_index, is_read_twice, say_verdict};
 use crate::cause::conclude;
 use crate::listed::lines_from;
 use ls_archive::{
-    CheckFault, CheckPartFault, Checked, Finding, Findings, check_listed, check_listed_by,
+    CheckFault, CheckPartFault, Checked, Finding, Findings, Verdict, VerifyFault, VerifyPartFault,
+    check_listed, check_listed_by, verify_part,
 };
 use ls_console::{
-    DONE, FAILED, Lines, Program, finish_lines, line_buffer, no_memory, open_from, say_unwritten,
+    DONE, FAILED, Lines, Program, finish_lines, line_buffer, no_memory, open_film, open_from,
+    say_unwritten,
 };
 use ls_files::Opens;
 use ls_film::{MOST_FRAMES, Part};
 use ls_frame::{Counted, Feed, Outlet};
+use std::alloc::Global;
 use std::io::Write;
 use std::rt::Files;
 use std::thread::Threads;
@@ -173,8 +177,73 @@ fn check_lent<Rt: AllocGlobal + Threads + Sync, I: Feed, R: Feed, F: Findings>(
     }
     let (alloc, workers) = (rt.alloc(), usize::from(workers));
     if workers > 1 {
-        check_listed_by(rt, alloc, workers, part, offset, index, recording, findings)
+        check_listed_by(
+            rt, alloc, workers, part, offset, index, recording, findings,
+        )
     } else {
         check_listed(alloc, part, offset, index, recording, findings)
     }
+}
+
+/// Compares a part of a recording with that of its film, and says where they differ.
+pub fn verify_files_part<R, O, W, E>(
+    program: Program<'_, R, O, W, E>,
+    film: &str,
+    recording: &str,
+    part: Part,
+) -> u8
+where
+    R: AllocGlobal,
+    O: Opens + Copy + Drop,
+    W: Write,
+    E: Outlet,
+    ensures status { DoneOrFailed result }
+    ensures same { result ≡ DONE → IsPart part → HaveSamePart O.holds program.entry.opener film.now recording.now part }
+{
+    let Program {
+        rt,
+        opener,
+        console,
+        ..
+    } = program;
+    let alloc = rt.alloc();
+    let mut images = match open_film(alloc, opener, film, console) {
+        Ok(images) => images,
+        Err(status) => return status,
+    };
+    let mut codestreams = match open_film(alloc, opener, recording, console) {
+        Ok(codestreams) => codestreams,
+        Err(status) => return status,
+    };
+    match verify_lent(alloc, part, &mut images, &mut codestreams) {
+        Ok(verdict) => say_verdict(recording, verdict, console),
+        Err(fault) if is_of_film(fault) => conclude(film, Err(fault), &images, None, console),
+        Err(fault) => conclude(recording, Err(fault), &codestreams, None, console),
+    }
+}
+
+/// Whether a comparison stopped because of its film.
+fn is_of_film(fault: VerifyPartFault) -> bool {
+    matches!(
+        fault,
+        VerifyPartFault::Verify(VerifyFault::Film(..)) | VerifyPartFault::FilmTooFew(_)
+    )
+}
+
+/// Compares a part of a recording with that of its film, over any readers; finds nothing if its frames are out of order
+/// or too high, which the words can't ask for.
+fn verify_lent<F: Feed, R: Feed>(
+    alloc: Global,
+    part: Part,
+    film: &mut F,
+    recording: &mut R,
+) -> Result<Verdict, VerifyPartFault>
+    ensures finds { IfOk result (λ verdict. IsPart part → FindsPart (F.remaining film.old) (F.remaining film.new)
+        (R.remaining recording.old) (R.remaining recording.new) part.first part.last verdict) }
+{
+    let Part { first, last } = part;
+    if first >= MOST_FRAMES || last.is_some_and(|last| last < first || last >= MOST_FRAMES) {
+        return Ok(Verdict::Same(0));
+    }
+    verify_part(alloc, part, film, recording)
 }

@@ -126,6 +126,10 @@ module _ (words : ArgMatches) where
       × IsGiven (codes "strict") strict × (beside ≡ false → workers ≤ 1) × HasText (codes "frames") None
   Asks name (request.Verify pairs workers strict) =
       (name ≡ codes "verify") × ArePairsOf pairs.items × ReadsNumber (2 ^ 8) (codes "workers") (Some workers) × IsGiven (codes "strict") strict
+      × HasText (codes "frames") None
+  Asks name (request.VerifyPart film file frames) =
+      (name ≡ codes "verify") × HasText (codes "FILM") (Some film.now) × HasFile file.now × AsksFrames (Some frames)
+      × ((workers : ℕ) × AsksWorkers workers × (workers ≤ 1)) × IsGiven (codes "strict") false
   Asks name (request.Record asked) = (name ≡ codes "record") × AsksRecording asked
   Asks name (request.Replay sources capacity file) =
       (name ≡ codes "replay") × HasText (codes "FILE") (Some file.now) × ReadsNumber (2 ^ 8) (codes "sources") (Some sources)
