@@ -13,7 +13,7 @@ _jlsrec() {
         return
         ;;
     record)
-        options+=' --workers --queue --window --preset --into --replace --progress --report --index'
+        options+=' --workers --queue --window --preset --into --replace --progress --report --index --times'
         options+=' --count --for --keep-open --sync'
         ;;
     play) options+=' --into --frames --salvage --index --workers' ;;

@@ -225,7 +225,7 @@ def draw(number):
     if reported:
         with open("report") as report:
             lines = report.read().splitlines()[1:-1]
-        ends = [line[111:] for line in lines]
+        ends = [line[120:] for line in lines]
         count(f"{case} the report", ends == [it + ": stopped" * wanted[it].endswith("stopped") for it in names], ends)
     os.chdir("..")
 

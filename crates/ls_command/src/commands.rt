@@ -7,7 +7,7 @@ use crate::texts::{
     LIST_HELP, NO_SUMS_HELP, PLAY_HELP, PLAYERS_HELP, PRESET_HELP, PROGRESS_HELP, QUEUE_HELP,
     REASONS_HELP, RECORD_HELP, RECORDING_OF_FILM_HELP, RECORDINGS_HELP, REPLACE_HELP, REPLAY_HELP,
     REPORT_HELP, SALVAGE_HELP, SECONDS_HELP, SOURCES_HELP, STEPS_HELP, STRICT_HELP, SYNC_HELP,
-    VERIFIERS_HELP, VERIFY_HELP, WINDOW_HELP, WORKERS_HELP,
+    TIMES_HELP, VERIFIERS_HELP, VERIFY_HELP, WINDOW_HELP, WORKERS_HELP,
 };
 use clap::builder::ValueParser;
 use clap::{Arg, ArgAction, Command};
@@ -60,6 +60,7 @@ const COMMANDS: [Entry; 8] = [
             Argument::Flag("progress", PROGRESS_HELP),
             Argument::Text("report", "REPORT", REPORT_HELP),
             Argument::Flag("index", INDEX_OF_RECORDING_HELP),
+            Argument::Flag("times", TIMES_HELP),
             Argument::Limit("count", "FRAMES", COUNT, COUNT_HELP),
             Argument::Limit("for", "SECONDS", SECONDS, SECONDS_HELP),
             Argument::Flag("keep-open", KEEP_OPEN_HELP),

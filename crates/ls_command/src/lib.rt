@@ -151,6 +151,8 @@ pub struct RecordRequest<'a> {
     pub report: Option<&'a str>,
     /// Whether each recording gets an index.
     pub index: bool,
+    /// Whether the times of its frames are written beside each recording.
+    pub times: bool,
     /// The seconds after which what is recorded is brought onto the disk again; 0 if that is to be at the end alone.
     pub sync: usize,
     /// Whether pipes are kept open when nothing writes to them.
@@ -574,6 +576,7 @@ fn recording_of<'a>(
         progress: words.get_flag("progress"),
         report: words.get_str("report"),
         index: words.get_flag("index"),
+        times: words.get_flag("times"),
         sync: size_of(words, "sync")?,
         keep_open: words.get_flag("keep-open"),
         count: count_of(words),

@@ -9,9 +9,10 @@
 //! use ls_console::{Console, DONE, Host, open_film};
 //! use ls_files::Opener;
 //! use ls_frame::Outlet;
+//! use std::time::Clock;
 //!
 //! /// Opens a film, or says why it can't; answers the status.
-//! pub fn try_film<R: Host, E: Outlet>(rt: &R, file: &str, console: &mut Console<E>) -> u8 {
+//! pub fn try_film<R: Host + Clock, E: Outlet>(rt: &R, file: &str, console: &mut Console<E>) -> u8 {
 //!     match open_film(rt.alloc(), Opener::new(rt), file, console) {
 //!         Ok(_film) => DONE,
 //!         Err(status) => status,

@@ -34,7 +34,7 @@ where
     ensures path { IfOk result (λ made. (made.path.now ≡ path.now) × (made.target.path.now ≡ path.now)) }
     ensures status { IfErr result (λ status. status ≡ FAILED) }
 {
-    match keeper.make(alloc, path, None) {
+    match keeper.make(alloc, path, None, None) {
         Ok(targets) => {
             if let Some(renamed) = keeper.renamed() {
                 console.mention(path, renamed);

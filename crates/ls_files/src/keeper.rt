@@ -5,19 +5,38 @@ use crate::held::Held;
 use crate::opener::{Makes, Opens};
 use crate::place::Place;
 use crate::target::Target;
-use std::alloc::Global;
+use std::alloc::{AllocError, Global};
 use std::io;
 
-/// The ending that the name of an index adds to its recording's.
+/// The endings that the names of an index and of a file of times add to their recording's.
 pub const INDEX: &str = ".index";
 
-/// Holds the file of a recording and that of its index, or one other file.
+pub const TIMES: &str = ".times";
+
+/// A file beside a recording: its index, or the times of its frames.
+#[derive(Clone, Copy, PartialEq, Eq)]
+pub enum Beside {
+    Index,
+    Times,
+}
+
+impl Beside {
+    /// What its name adds to the recording's.
+    fn ending(self) -> &'static str {
+        match self {
+            Beside::Index => INDEX,
+            Beside::Times => TIMES,
+        }
+    }
+}
+
+/// Holds the file of a recording and those beside it, or one other file.
 #[derive(Drop)]
 pub struct Keeper<O: Makes> {
     opener: O,
     recording: Held<O::File>,
-    /// The index to make, or an existing one beside the recording.
-    index: Option<Held<O::File>>,
+    /// The files to make beside the recording, or existing ones.
+    beside: Vec<(Beside, Held<O::File>)>,
     /// Whether earlier files are removed once the recording has a codestream.
     replaces: bool,
 }
@@ -27,74 +46,96 @@ pub struct Keeper<O: Makes> {
 pub struct Targets<'a, O: Opens> {
     pub recording: Target<'a, O>,
     pub index: Option<Target<'a, O>>,
+    pub times: Option<Target<'a, O>>,
 }
 
 /// The file that can't be made, and why. `WouldBlock` means that another program is making it.
 #[derive(Clone, Copy)]
 pub struct Unmade {
-    pub is_index: bool,
+    /// Which file beside the recording it is, unless it is the recording.
+    pub beside: Option<Beside>,
     pub fault: io::Error,
 }
 
 impl Unmade {
     fn recording(fault: io::Error) -> Unmade {
         Unmade {
-            is_index: false,
+            beside: None,
             fault,
         }
     }
 
-    fn index(fault: io::Error) -> Unmade {
+    fn beside(beside: Beside, fault: io::Error) -> Unmade {
         Unmade {
-            is_index: true,
+            beside: Some(beside),
             fault,
         }
     }
 }
 
 impl<O: Makes + Copy + Drop> Keeper<O> {
-    /// Locks existing files where a recording and its index are to be made, and changes nothing. The index's place is
-    /// given even if none is to be made: an existing index is then renamed with its recording.
+    /// Locks existing files where a recording, its index and its times are to be made, and changes nothing. The places
+    /// of the last two are given even if they aren't to be made: existing files there are then renamed with their
+    /// recording.
     pub fn claim(
         alloc: Global,
         opener: O,
         recording: &Place<'_>,
         index: Option<&Place<'_>>,
+        times: Option<&Place<'_>>,
         replace: bool,
     ) -> Result<Keeper<O>, Unmade> {
         let recording = match Held::claim(alloc, &opener, recording, "", replace) {
             Ok(held) => held,
             Err(fault) => return Err(Unmade::recording(fault)),
         };
-        let index = match index {
-            Some(index) => match Held::claim(alloc, &opener, index, INDEX, replace) {
-                Ok(held) => Some(held),
-                Err(fault) => return Err(Unmade::index(fault)),
-            },
-            None => None,
-        };
-        Ok(Keeper {
+        let mut keeper = Keeper {
             opener,
             recording,
-            index,
+            beside: Vec::new(alloc),
             replaces: replace,
-        })
+        };
+        keeper.claim_beside(alloc, Beside::Index, index)?;
+        keeper.claim_beside(alloc, Beside::Times, times)?;
+        Ok(keeper)
     }
 
-    /// Makes the file of the recording, and that of its index if a path is given for it.
+    /// Locks an existing file where one is to be made beside the recording, if a place is given for it.
+    fn claim_beside(
+        &mut self,
+        alloc: Global,
+        beside: Beside,
+        place: Option<&Place<'_>>,
+    ) -> Result<(), Unmade> {
+        let Some(place) = place else {
+            return Ok(());
+        };
+        let ending = beside.ending();
+        let held = match Held::claim(alloc, &self.opener, place, ending, self.replaces) {
+            Ok(held) => held,
+            Err(fault) => return Err(Unmade::beside(beside, fault)),
+        };
+        match self.beside.push((beside, held)) {
+            Ok(()) => Ok(()),
+            Err(_) => Err(Unmade::beside(beside, io::Error::from(AllocError))),
+        }
+    }
+
+    /// Makes the file of the recording, and that of its index and that of its times if paths are given for them.
     ///
     /// Existing files are renamed first: to the first free name of `path`.1, `path`.2, .., and an index to
-    /// `path`.1.index with it. A pipe or a device is written to as it is. If a file can't be made, earlier files get
-    /// their names back.
+    /// `path`.1.index and times to `path`.1.times with it. A pipe or a device is written to as it is. If a file can't be
+    /// made, earlier files get their names back.
     pub fn make<'a>(
         &mut self,
         alloc: Global,
         path: &'a str,
         index: Option<&'a str>,
+        times: Option<&'a str>,
     ) -> Result<Targets<'a, O>, Unmade>
         ensures { IfOk result (λ targets. targets.recording.path.now ≡ path.now) }
     {
-        match self.make_all(alloc, path, index) {
+        match self.make_all(alloc, path, index, times) {
             Ok(targets) => Ok(targets),
             Err(unmade) => {
                 self.give_back();
@@ -108,6 +149,7 @@ impl<O: Makes + Copy + Drop> Keeper<O> {
         alloc: Global,
         path: &'a str,
         index: Option<&'a str>,
+        times: Option<&'a str>,
     ) -> Result<Targets<'a, O>, Unmade>
         ensures { IfOk result (λ targets. targets.recording.path.now ≡ path.now) }
     {
@@ -116,14 +158,33 @@ impl<O: Makes + Copy + Drop> Keeper<O> {
             Ok(target) => target,
             Err(fault) => return Err(Unmade::recording(fault)),
         };
-        let index = match (&mut self.index, index) {
-            (Some(held), Some(path)) => match held.make(self.opener, path) {
-                Ok(target) => Some(target),
-                Err(fault) => return Err(Unmade::index(fault)),
-            },
-            _ => None,
+        let index = self.make_beside(Beside::Index, index)?;
+        let times = self.make_beside(Beside::Times, times)?;
+        Ok(Targets {
+            recording,
+            index,
+            times,
+        })
+    }
+
+    /// Makes a file beside the recording, if a path is given for it and its place is claimed.
+    fn make_beside<'a>(
+        &mut self,
+        beside: Beside,
+        path: Option<&'a str>,
+    ) -> Result<Option<Target<'a, O>>, Unmade> {
+        let Some(path) = path else {
+            return Ok(None);
         };
-        Ok(Targets { recording, index })
+        for (own, held) in self.beside.iter_mut() {
+            if *own == beside {
+                return match held.make(self.opener, path) {
+                    Ok(target) => Ok(Some(target)),
+                    Err(fault) => Err(Unmade::beside(beside, fault)),
+                };
+            }
+        }
+        Ok(None)
     }
 
     /// Renames the existing files, by the first number for which all names are free.
@@ -138,11 +199,8 @@ impl<O: Makes + Copy + Drop> Keeper<O> {
 
     /// Whether no existing file has to be renamed.
     fn are_clear(&self) -> bool {
-        let is_beside = match &self.index {
-            Some(index) => index.is_in_the_way(),
-            None => false,
-        };
-        !is_beside && !self.recording.is_in_the_way()
+        !self.recording.is_in_the_way()
+            && !self.beside.iter().any(|(_own, held)| held.is_in_the_way())
     }
 
     /// Renames the existing files by this number, if all names by it are free; whether that worked.
@@ -152,14 +210,9 @@ impl<O: Makes + Copy + Drop> Keeper<O> {
             Ok(None) => return Ok(false),
             Err(fault) => return Err(Unmade::recording(fault)),
         };
-        let beside = match &self.index {
-            Some(index) => match index.free_name(alloc, &self.opener, number) {
-                Ok(None) => return Ok(false),
-                Ok(beside) => beside,
-                Err(fault) => return Err(Unmade::index(fault)),
-            },
-            None => None,
-        };
+        if !self.are_free_beside(alloc, number)? {
+            return Ok(false);
+        }
         if self.recording.is_in_the_way() {
             match self.recording.rename(&self.opener, name) {
                 Ok(true) => {}
@@ -167,15 +220,40 @@ impl<O: Makes + Copy + Drop> Keeper<O> {
                 Err(fault) => return Err(Unmade::recording(fault)),
             }
         }
-        match (&mut self.index, beside) {
-            (Some(index), Some(beside)) if index.is_in_the_way() => {
-                match index.rename(&self.opener, beside) {
-                    Ok(is_renamed) => Ok(is_renamed),
-                    Err(fault) => Err(Unmade::index(fault)),
-                }
+        self.clear_beside(alloc, number)
+    }
+
+    /// Whether the names by this number are free for all files beside the recording.
+    fn are_free_beside(&self, alloc: Global, number: u32) -> Result<bool, Unmade> {
+        for (own, held) in &self.beside {
+            match held.free_name(alloc, &self.opener, number) {
+                Ok(Some(_name)) => {}
+                Ok(None) => return Ok(false),
+                Err(fault) => return Err(Unmade::beside(*own, fault)),
             }
-            _ => Ok(true),
         }
+        Ok(true)
+    }
+
+    /// Renames the existing files beside the recording by this number; whether that worked: if something has one of the
+    /// names by now, it didn't.
+    fn clear_beside(&mut self, alloc: Global, number: u32) -> Result<bool, Unmade> {
+        for (own, held) in self.beside.iter_mut() {
+            if !held.is_in_the_way() {
+                continue;
+            }
+            let is_renamed = match held.free_name(alloc, &self.opener, number) {
+                Ok(Some(name)) => held.rename(&self.opener, name),
+                Ok(None) => Ok(false),
+                Err(fault) => Err(fault),
+            };
+            match is_renamed {
+                Ok(true) => {}
+                Ok(false) => return Ok(false),
+                Err(fault) => return Err(Unmade::beside(*own, fault)),
+            }
+        }
+        Ok(true)
     }
 
     /// The earlier recording's new name, if it was renamed and won't be removed.
@@ -183,12 +261,9 @@ impl<O: Makes + Copy + Drop> Keeper<O> {
         self.staying(&self.recording)
     }
 
-    /// The same for the index.
-    pub fn renamed_index(&self) -> Option<&str> {
-        match &self.index {
-            Some(index) => self.staying(index),
-            None => None,
-        }
+    /// The same for a file beside it.
+    pub fn renamed_beside(&self, beside: Beside) -> Option<&str> {
+        self.staying(self.held_beside(beside)?)
     }
 
     fn staying<'k>(&self, held: &'k Held<O::File>) -> Option<&'k str> {
@@ -196,6 +271,16 @@ impl<O: Makes + Copy + Drop> Keeper<O> {
             return None;
         }
         held.renamed()
+    }
+
+    /// A file beside the recording, if there is one.
+    fn held_beside(&self, beside: Beside) -> Option<&Held<O::File>> {
+        for (own, held) in &self.beside {
+            if *own == beside {
+                return Some(held);
+            }
+        }
+        None
     }
 
     /// Keeps earlier files that were to be replaced: the recording has ended without a codestream, or isn't on the
@@ -209,10 +294,10 @@ impl<O: Makes + Copy + Drop> Keeper<O> {
         self.recording.sync()
     }
 
-    /// Syncs the index likewise.
-    pub fn sync_index(&self) -> io::Result<()> {
-        match &self.index {
-            Some(index) => index.sync(),
+    /// Syncs a file beside it likewise, if there is one.
+    pub fn sync_beside(&self, beside: Beside) -> io::Result<()> {
+        match self.held_beside(beside) {
+            Some(held) => held.sync(),
             None => Ok(()),
         }
     }
@@ -228,30 +313,30 @@ impl<O: Makes + Copy + Drop> Keeper<O> {
         if self.replaces {
             self.replaces = false;
             self.recording.remove_earlier(&self.opener);
-            if let Some(index) = &mut self.index {
-                index.remove_earlier(&self.opener);
+            for (_own, held) in self.beside.iter_mut() {
+                held.remove_earlier(&self.opener);
             }
         }
     }
 
-    /// If nothing was recorded, removes the new files and gives earlier ones their names back; an index only with its
-    /// recording.
+    /// If nothing was recorded, removes the new files and gives earlier ones their names back; those beside the recording
+    /// only with it.
     pub fn give_back(&mut self) {
         if self.recording.has_bytes() {
             return;
         }
         if self.recording.stands(&self.opener) {
             // While the recording's new file is there and locked, no other program takes its place.
-            self.give_index_back();
+            self.give_back_beside();
             let _is_back = self.recording.give_back(&self.opener);
         } else if self.recording.is_written_into() || self.recording.give_back(&self.opener) {
-            self.give_index_back();
+            self.give_back_beside();
         }
     }
 
-    fn give_index_back(&mut self) {
-        if let Some(index) = &mut self.index {
-            let _is_back = index.give_back(&self.opener);
+    fn give_back_beside(&mut self) {
+        for (_own, held) in self.beside.iter_mut() {
+            let _is_back = held.give_back(&self.opener);
         }
     }
 }

@@ -12,8 +12,8 @@
 //! let mut film = Source::of(rt, opener, "film.pgm", false)?;
 //! let place = Place::of(rt, "film.pgm.jls");
 //! // .. compare it with other places, and then ..
-//! let mut keeper = Keeper::claim(alloc, opener, &place, None, false)?;
-//! let targets = keeper.make(alloc, "film.pgm.jls", None)?;
+//! let mut keeper = Keeper::claim(alloc, opener, &place, None, None, false)?;
+//! let targets = keeper.make(alloc, "film.pgm.jls", None, None)?;
 //! if let Some(name) = keeper.renamed() {
 //!     // .. what stood there is called so now ..
 //! }
@@ -23,7 +23,7 @@
 //! files, in any thread), `source` (a file that is read, whose first bytes `front` keeps), `patient` (writes that are
 //! tried again), `target` (a file that is written), `place` (the place of a file that is to be made, and what is there
 //! already), `held` (a file that is made, from the lock of the earlier one to the last sync), `keeper` (a recording's
-//! file and that of its index, together), `folders` (locks the folders in which files are made), `likeness` (guesses
+//! file and those beside it, together), `folders` (locks the folders in which files are made), `likeness` (guesses
 //! formats). The known bytes of a source or a target are those of its file, once
 //! that is open (`specs/View/Opened.antt`). No contract says more of files: the tests of the whole program show how these
 //! calls work.
@@ -44,7 +44,7 @@ pub mod target;
 
 pub use folders::Folders;
 pub use identity::{Identity, Spot};
-pub use keeper::{INDEX, Keeper, Targets, Unmade};
+pub use keeper::{Beside, INDEX, Keeper, TIMES, Targets, Unmade};
 pub use likeness::likeness_of;
 pub use opener::{Locks, Makes, Opener, Opens};
 pub use patient::Patient;

@@ -7,6 +7,7 @@ use std::alloc::{AllocError, Global};
 use std::fs::{File, Files, Metadata, OpenFile, OpenOptions, TryLockError};
 use std::io::{Read, Seek, SeekFrom, Write};
 use std::os::unix::fs::FileTypeExt;
+use std::time::{Clock, SystemTime, UNIX_EPOCH};
 use std::{fs, io};
 
 /// Opens files, and writes a line on standard error. A lane opens its pipe with it, in its own thread, into which the
@@ -40,6 +41,9 @@ pub trait Opens {
 
     /// Asks the program to stop, as a signal does.
     fn stop(&self);
+
+    /// The nanoseconds since 1970-01-01T00:00:00Z by the system's clock; 0 if it can't be read.
+    fn now(&self) -> u64;
 
     /// Opens a named pipe for reading and writing, which never waits, and closes it again: so whoever waits for its
     /// other side goes on. Does nothing with any other file. A failure is ignored.
@@ -115,7 +119,7 @@ impl<'a, R: Files> Clone for Opener<'a, R> {
 
 impl<'a, R: Files> Copy for Opener<'a, R> {}
 
-impl<'a, R: Files + Eprint> Opens for Opener<'a, R> {
+impl<'a, R: Files + Eprint + Clock> Opens for Opener<'a, R> {
     type File = R::File;
 
     ghost holds = { λ _ _ _. Unit {0} };
@@ -158,6 +162,16 @@ impl<'a, R: Files + Eprint> Opens for Opener<'a, R> {
         }
     }
 
+    fn now(&self) -> u64 {
+        let Ok(now) = SystemTime::now(self.rt) else {
+            return 0;
+        };
+        match now.duration_since(UNIX_EPOCH) {
+            Ok(time) => u64::try_from(time.as_nanos()).unwrap_or(u64::MAX),
+            Err(_) => 0,
+        }
+    }
+
     fn wake(&self, path: &str) {
         if fs::metadata(self.rt, path).is_ok_and(|file| file.file_type().is_fifo()) {
             let _pipe = self.open_kept(path);
@@ -165,7 +179,7 @@ impl<'a, R: Files + Eprint> Opens for Opener<'a, R> {
     }
 }
 
-impl<'a, R: Files + Eprint> Makes for Opener<'a, R>
+impl<'a, R: Files + Eprint + Clock> Makes for Opener<'a, R>
 where
     R::File: Locks,
 {

@@ -9,6 +9,7 @@ use crate::opener::Opens;
 use std::fs::{Files, Metadata, OpenFile};
 use std::io::Read;
 use std::os::unix::fs::{FileTypeExt, MetadataExt};
+use std::sync::atomic::{AtomicU64, Ordering};
 use std::{fs, io};
 
 /// EACCES, the system's error number for a file that may not be read.
@@ -32,6 +33,8 @@ pub struct Source<'a, O: Opens> {
     is_kept: bool,
     /// Whether a read was refused since the program was asked to stop.
     is_stopped: bool,
+    /// Where to put the time at which bytes came, if that is wanted.
+    arrival: Option<&'a AtomicU64>,
     /// The first bytes that were read.
     front: Front,
 }
@@ -102,6 +105,7 @@ impl<'a, O: Opens> Source<'a, O> {
             notice: None,
             is_kept: false,
             is_stopped: false,
+            arrival: None,
             front: Front::new(),
         }
     }
@@ -130,6 +134,20 @@ impl<'a, O: Opens> Source<'a, O> {
         ensures { self.new.file ≡ self.old.file }
     {
         self.notice = Some(notice);
+    }
+
+    /// Has each read that gives bytes put the time at which they came there, in nanoseconds since 1970-01-01T00:00:00Z.
+    pub fn time_into(&mut self, arrival: &'a AtomicU64)
+        ensures { self.new.file ≡ self.old.file }
+    {
+        self.arrival = Some(arrival);
+    }
+
+    /// Notes that bytes came, if that is wanted.
+    fn note_arrival(&self) {
+        if let Some(arrival) = self.arrival {
+            arrival.store(self.opener.now(), Ordering::SeqCst);
+        }
     }
 
     /// The file's identity, if the system gives it.
@@ -190,6 +208,9 @@ impl<'a, O: Opens> Read for Source<'a, O> {
                 // A signal that comes to the camera too may end it first.
                 Ok(0) if self.opener.is_stopping() => {}
                 Ok(given) => {
+                    if given > 0 {
+                        self.note_arrival();
+                    }
                     self.front.keep(&buf[..given]);
                     return Ok(given);
                 }

@@ -12,13 +12,15 @@ pub struct Found<'a> {
     /// The film's file, and the folder and name at which it is.
     identity: Option<Identity>,
     spot: Option<Spot<'a>>,
-    /// The places of its recording and of the index of that.
+    /// The places of its recording, and of the index and the times of that.
     pub place: Place<'a>,
     pub index: Place<'a>,
+    pub times: Place<'a>,
 }
 
 impl<'a> Found<'a> {
-    /// The film of this identity: looks at where it is, and at the places of its recording and index.
+    /// The film of this identity: looks at where it is, and at the places of its recording and of the
+    /// files beside that.
     pub fn look<R: Files + AllocGlobal>(
         rt: &R,
         names: &'a Names<'a>,
@@ -32,18 +34,20 @@ impl<'a> Found<'a> {
             spot: Spot::of(rt, names.file),
             place: Place::of(rt, names.recording.as_str()),
             index: Place::of(rt, names.index.as_str()),
+            times: Place::of(rt, names.times.as_str()),
         }
     }
 }
 
-/// The first film whose recording or index would be the same file as another's, or that is another's recording or an
-/// index, or into which a recording or an index would be written.
+/// The first film whose recording, index or times would be the same file as another's or as one another, or that is
+/// another's recording, an index or times, or into which one of these would be written.
 pub fn written_twice<'a>(films: &[Found<'a>], replace: bool) -> Option<&'a str> {
     for (place, film) in films.iter().enumerate() {
         for (other, one) in films.iter().enumerate() {
             if is_overwritten(film, one, replace)
-                || meets_index(film, one, replace)
+                || meets_beside(film, one, replace)
                 || (place != other && are_one(film, one))
+                || (place == other && are_one_beside(film))
             {
                 return Some(film.names.file);
             }
@@ -60,27 +64,35 @@ fn is_overwritten(film: &Found<'_>, other: &Found<'_>, replace: bool) -> bool {
     }
 }
 
-/// Whether two films have the same recording or the same index, or the first is where the other's recording is to be
-/// made.
+/// Whether two films have the same recording or the same file beside one, or the first is where the other's recording is
+/// to be made.
 fn are_one(film: &Found<'_>, other: &Found<'_>) -> bool {
     film.place.is_one_with(&other.place)
         || (film.spot.is_some() && film.spot == other.place.spot())
-        || (other.names.is_indexed && has_index_at(film, &other.index))
+        || (other.names.is_indexed && has_beside_at(film, &other.index))
+        || (other.names.is_timed && has_beside_at(film, &other.times))
 }
 
-/// Whether a film's index is to be made at this place.
-pub fn has_index_at(film: &Found<'_>, place: &Place<'_>) -> bool {
-    film.names.is_indexed && film.index.is_one_with(place)
+/// Whether a film's index and its times are both to be made, and would be the same file.
+fn are_one_beside(film: &Found<'_>) -> bool {
+    film.names.is_indexed && film.names.is_timed && film.index.is_one_with(&film.times)
 }
 
-/// Whether the index of `other` would be the same file as this film's recording, is where the film is, or would be
-/// written into the film.
-fn meets_index(film: &Found<'_>, other: &Found<'_>, replace: bool) -> bool {
-    other.names.is_indexed && is_met(film, &other.index, replace)
+/// Whether a film's index or its times are to be made at this place.
+pub fn has_beside_at(film: &Found<'_>, place: &Place<'_>) -> bool {
+    (film.names.is_indexed && film.index.is_one_with(place))
+        || (film.names.is_timed && film.times.is_one_with(place))
 }
 
-/// Whether a report or an index would be the same file as a film's recording, is where the film is, or would be
-/// written into the film.
+/// Whether the index or the times of `other` would be the same file as this film's recording, are where the film is, or
+/// would be written into the film.
+fn meets_beside(film: &Found<'_>, other: &Found<'_>, replace: bool) -> bool {
+    (other.names.is_indexed && is_met(film, &other.index, replace))
+        || (other.names.is_timed && is_met(film, &other.times, replace))
+}
+
+/// Whether a report or a file beside a recording would be the same file as a film's recording, is where the film is, or
+/// would be written into the film.
 pub fn is_met(film: &Found<'_>, place: &Place<'_>, replace: bool) -> bool {
     film.place.is_one_with(place)
         || (film.spot.is_some() && film.spot == place.spot())
@@ -89,11 +101,42 @@ pub fn is_met(film: &Found<'_>, place: &Place<'_>, replace: bool) -> bool {
             .is_some_and(|identity| place.would_write_into(identity, replace))
 }
 
-/// Whether a film's index is claimed with its recording: if one is made; and if none is, so that an existing one is
-/// renamed with the recording, unless the recording is written into a pipe, a device or an open file, or the index is
-/// one of the films or the report.
-pub fn has_index(film: &Found<'_>, films: &[Found<'_>], report: Option<&Place<'_>>) -> bool {
-    film.names.is_indexed || !(film.place.is_written_into() || is_given(&film.index, films, report))
+/// The place of a film's index, if it is claimed with the recording: if an index is made; and if none is, so that an
+/// existing one is renamed with the recording, unless the recording is written into a pipe, a device or an open file, or
+/// the index is one of the films or the report.
+pub fn index_to_claim<'f, 'a>(
+    film: &'f Found<'a>,
+    films: &[Found<'_>],
+    report: Option<&Place<'_>>,
+) -> Option<&'f Place<'a>> {
+    if film.names.is_indexed || is_moved(film, &film.index, films, report) {
+        Some(&film.index)
+    } else {
+        None
+    }
+}
+
+/// The place of a film's times likewise.
+pub fn times_to_claim<'f, 'a>(
+    film: &'f Found<'a>,
+    films: &[Found<'_>],
+    report: Option<&Place<'_>>,
+) -> Option<&'f Place<'a>> {
+    if film.names.is_timed || is_moved(film, &film.times, films, report) {
+        Some(&film.times)
+    } else {
+        None
+    }
+}
+
+/// Whether an existing file at this place, beside a film's recording, is renamed with that although none is made there.
+fn is_moved(
+    film: &Found<'_>,
+    place: &Place<'_>,
+    films: &[Found<'_>],
+    report: Option<&Place<'_>>,
+) -> bool {
+    !(film.place.is_written_into() || is_given(place, films, report))
 }
 
 /// Whether the file at a place is one of the films or the report.

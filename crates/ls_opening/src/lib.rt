@@ -8,6 +8,7 @@
 //! use ls_frame::Outlet;
 //! use ls_opening::{names_once, open_films};
 //! use std::sync::Wait;
+//! use std::time::Clock;
 //!
 //! /// Opens films and makes their files; the number of films, or the status once it is said why none is recorded.
 //! pub fn try_films<R, E>(
@@ -16,7 +17,7 @@
 //!     console: &mut Console<E>,
 //! ) -> Result<usize, u8>
 //! where
-//!     R: Host + Wait,
+//!     R: Host + Wait + Clock,
 //!     R::File: Locks,
 //!     E: Outlet,
 //! {
@@ -32,7 +33,8 @@
 //! ```
 //!
 //! In reading order: `names` (the names of films and of the files made for them), `found` (where a film and the places
-//! of its files are, and which are duplicates), `limited` (has a film be read no further than its first frames), `opening` (opens the films and makes the files), `film` (a film's
+//! of its files are, and which are duplicates), `limited` (has a film be read no further than its first
+//! frames, and notes when their bytes came), `opening` (opens the films and makes the files), `film` (a film's
 //! files, from their opening until its recording has ended), `refusal` (why no film is recorded). No contract says
 //! what is said; the tests of the whole program show it.
 #![tactic(auto)]
@@ -45,7 +47,7 @@ mod opening;
 mod refusal;
 
 pub use film::{Film, Synced, failed_of};
-pub use limited::{Limit, Limited};
+pub use limited::{Course, Limited};
 pub use names::{Names, names_once};
 pub use opening::{Devices, Opened, Writer, open_films};
 pub use refusal::Refusal;

@@ -1,4 +1,4 @@
-//! Has a film be read no further than its first frames.
+//! Has a film be read no further than its first frames, and notes when the bytes of each came.
 ghost use Rattle.std.specs.Prelude.{◌≡◌};
 ghost use Rattle.ls_frame.specs.View.Devices.{risen};
 
@@ -6,51 +6,103 @@ use ls_frame::{Failed, Feed, FeedFault};
 use std::alloc::{AllocError, Global};
 use std::io;
 use std::io::Read;
-use std::sync::atomic::{AtomicBool, Ordering};
+use std::sync::atomic::{AtomicBool, AtomicU64, Ordering};
 
-/// The number of frames after which a film is read no further, and whether so many were read.
+/// How far a film is read, and when its bytes came, as its reader and the gate of its recording tell each other. Both do
+/// so in the thread that reads the film.
 #[derive(Drop)]
-pub struct Limit {
-    count: u64,
+pub struct Course {
+    /// The number of frames after which the film is read no further, if there is one, and whether so many were read.
+    count: Option<u64>,
     is_reached: AtomicBool,
+    /// Whether times are wanted.
+    is_timed: bool,
+    /// Whether the reader was asked for a frame, and has taken no byte of it yet.
+    is_before: AtomicBool,
+    /// When the first byte came of the frame that is read, or was read last; and when those bytes came that were read
+    /// last.
+    first: AtomicU64,
+    came: AtomicU64,
 }
 
-impl Limit {
-    /// The limits of `films` films: `count` frames of each; none without a count.
+impl Course {
+    /// The courses of `films` films: `count` frames are read of each, if there is a count, and times are noted if they
+    /// are wanted; none with neither.
     pub fn of_each(
         alloc: Global,
         films: usize,
         count: Option<u64>,
-    ) -> Result<Vec<Limit>, AllocError> {
-        let mut limits = Vec::new(alloc);
-        if let Some(count) = count {
+        is_timed: bool,
+    ) -> Result<Vec<Course>, AllocError> {
+        let mut courses = Vec::new(alloc);
+        if count.is_some() || is_timed {
             for _film in 0..films {
-                limits.push(Limit {
+                courses.push(Course {
                     count,
                     is_reached: AtomicBool::new(false),
+                    is_timed,
+                    is_before: AtomicBool::new(false),
+                    first: AtomicU64::new(0),
+                    came: AtomicU64::new(0),
                 })?;
             }
         }
-        Ok(limits)
+        Ok(courses)
+    }
+
+    /// Notes that the reader is asked for a frame.
+    pub fn begin(&self) {
+        if self.is_timed {
+            self.is_before.store(true, Ordering::SeqCst);
+        }
     }
 
     /// Notes that the frame of this number was read.
     pub fn note(&self, number: u64) {
-        if number.saturating_add(1) == self.count {
+        if self.count == Some(number.saturating_add(1)) {
             self.is_reached.store(true, Ordering::SeqCst);
+        }
+    }
+
+    /// When the first byte and the last came of the frame that was read last, in nanoseconds since 1970-01-01T00:00:00Z;
+    /// 0 if no times are wanted or the clock couldn't be read.
+    pub fn times(&self) -> (u64, u64) {
+        (
+            self.first.load(Ordering::SeqCst),
+            self.came.load(Ordering::SeqCst),
+        )
+    }
+
+    /// Where the film's file puts the time at which bytes came, if times are wanted.
+    pub fn arrival(&self) -> Option<&AtomicU64> {
+        if self.is_timed {
+            Some(&self.came)
+        } else {
+            None
         }
     }
 
     fn is_reached(&self) -> bool {
         self.is_reached.load(Ordering::SeqCst)
     }
+
+    /// Notes that the reader has taken bytes. The first of a frame came with the bytes that were read last: a buffer is
+    /// filled only once it is used up.
+    fn take(&self) {
+        if self.is_before.load(Ordering::SeqCst) {
+            self.is_before.store(false, Ordering::SeqCst);
+            self.first
+                .store(self.came.load(Ordering::SeqCst), Ordering::SeqCst);
+        }
+    }
 }
 
-/// A reader whose reads fail once its limit is reached, if it has one.
+/// A reader whose reads fail once so many frames were read as its course has, if it has one; it notes there when the first
+/// byte of each frame came.
 #[derive(Drop)]
 pub struct Limited<'a, R> {
     reader: R,
-    limit: Option<&'a Limit>,
+    course: Option<&'a Course>,
     failed: u64,
 }
 
@@ -61,13 +113,13 @@ const BEYOND: Failed = Failed {
 };
 
 impl<'a, R> Limited<'a, R> {
-    /// A reader with its limit, if it has one. No read has failed yet.
-    pub fn new(reader: R, limit: Option<&'a Limit>) -> Limited<'a, R>
+    /// A reader with its course, if it has one. No read has failed yet.
+    pub fn new(reader: R, course: Option<&'a Course>) -> Limited<'a, R>
         ensures { result.reader ≡ reader }
     {
         Limited {
             reader,
-            limit,
+            course,
             failed: 0,
         }
     }
@@ -80,9 +132,18 @@ impl<'a, R> Limited<'a, R> {
     }
 
     fn is_closed(&self) -> bool {
-        match self.limit {
-            Some(limit) => limit.is_reached(),
+        match self.course {
+            Some(course) => course.is_reached(),
             None => false,
+        }
+    }
+
+    /// Notes that bytes were taken, if any were.
+    fn note(&self, are_some: bool) {
+        if are_some {
+            if let Some(course) = self.course {
+                course.take();
+            }
         }
     }
 
@@ -102,7 +163,9 @@ impl<'a, R: Feed> Read for Limited<'a, R> {
         if self.is_closed() {
             return Err(io::Error::from(io::ErrorKind::Interrupted));
         }
-        self.reader.read(buf)
+        let given = self.reader.read(buf)?;
+        self.note(given > 0);
+        Ok(given)
     }
 }
 
@@ -115,7 +178,10 @@ impl<'a, R: Feed> Feed for Limited<'a, R> {
             return Err(BEYOND);
         }
         match self.reader.feed(buf) {
-            Ok(given) => Ok(given),
+            Ok(given) => {
+                self.note(given > 0);
+                Ok(given)
+            }
             Err(failure) => {
                 self.count();
                 Err(failure)
@@ -135,7 +201,10 @@ impl<'a, R: Feed> Feed for Limited<'a, R> {
             return Err(FeedFault::Io);
         }
         match self.reader.feed_past(mark, limit, most, bytes) {
-            Ok(next) => Ok(next),
+            Ok(next) => {
+                self.note(next.is_some());
+                Ok(next)
+            }
             Err(FeedFault::Io) => {
                 self.count();
                 Err(FeedFault::Io)

@@ -5,11 +5,11 @@ ghost use Rattle.std.specs.List.{AllZip};
 use crate::refusal::Refusal;
 use ls_command::RecordRequest;
 use ls_console::{Shown, cleared};
-use ls_files::INDEX;
 use ls_files::identity::last_part;
+use ls_files::{INDEX, TIMES};
 use std::alloc::{AllocError, Global};
 
-/// The names of a film, of its recording and of the index of that, and the line for a terminal once the film's pipe
+/// The names of a film, of its recording and of the files beside that, and the line for a terminal once the film's pipe
 /// is open.
 #[derive(Drop)]
 pub struct Names<'a> {
@@ -19,6 +19,10 @@ pub struct Names<'a> {
     pub index: String,
     /// Whether an index is made.
     pub is_indexed: bool,
+    /// The name of the file with the times of its frames.
+    pub times: String,
+    /// Whether that is made.
+    pub is_timed: bool,
     pub notice: String,
 }
 
@@ -34,7 +38,7 @@ pub fn names_once<'a>(
     let mut names = Vec::new(alloc);
     for place in 0..asked.files.len() {
         let file = file_at(&asked.files, place);
-        names.push(film_names(alloc, file, asked.into, asked.index, columns)?)?;
+        names.push(film_names(alloc, file, asked, columns)?)?;
     }
     match named_twice(&names, asked.report) {
         Some(name) => Err(Refusal::Twice(name)),
@@ -54,14 +58,14 @@ fn file_at<'a>(files: &[&'a str], place: usize) -> &'a str
 fn film_names<'a>(
     alloc: Global,
     file: &'a str,
-    into: Option<&str>,
-    is_indexed: bool,
+    asked: &RecordRequest<'_>,
     columns: usize,
 ) -> Result<Names<'a>, AllocError>
     ensures { IfOk result (λ names. names.file.now ≡ file.now) }
 {
-    let recording = recording_name(alloc, file, into)?;
+    let recording = recording_name(alloc, file, asked.into)?;
     let index = format!(in alloc; "{recording}{INDEX}")?;
+    let times = format!(in alloc; "{recording}{TIMES}")?;
     // It goes over the progress line that may be shown by then.
     let (blanks, shown) = (cleared(alloc, columns)?, Shown(file));
     let notice = format!(in alloc; "{blanks}jlsrec: {shown}: opened")?;
@@ -69,7 +73,9 @@ fn film_names<'a>(
         file,
         recording,
         index,
-        is_indexed,
+        is_indexed: asked.index,
+        times,
+        is_timed: asked.times,
         notice,
     })
 }
@@ -94,12 +100,12 @@ fn named_twice<'a>(names: &[Names<'a>], report: Option<&'a str>) -> Option<&'a s
     }
 }
 
-/// The first film whose name is that of another film, of another's recording or of an index, or whose recording has
-/// the name of another's.
+/// The first film whose name is that of another film, of another's recording or of a file beside a recording, or whose
+/// recording has the name of another's.
 fn film_named_twice<'a>(names: &[Names<'a>]) -> Option<&'a str> {
     for (place, film) in names.iter().enumerate() {
         for (other, one) in names.iter().enumerate() {
-            if is_index_of(film.file, one) || (place != other && are_named_alike(film, one)) {
+            if is_beside(film.file, one) || (place != other && are_named_alike(film, one)) {
                 return Some(film.file);
             }
         }
@@ -107,9 +113,10 @@ fn film_named_twice<'a>(names: &[Names<'a>]) -> Option<&'a str> {
     None
 }
 
-/// Whether an index that is to be made for a film has this name.
-fn is_index_of(name: &str, film: &Names<'_>) -> bool {
-    film.is_indexed && film.index.as_str() == name
+/// Whether an index or a file of times that is to be made for a film has this name.
+fn is_beside(name: &str, film: &Names<'_>) -> bool {
+    (film.is_indexed && film.index.as_str() == name)
+        || (film.is_timed && film.times.as_str() == name)
 }
 
 /// Whether a film has the name of another or of its recording, or their recordings have the same name.
@@ -119,11 +126,11 @@ fn are_named_alike(film: &Names<'_>, other: &Names<'_>) -> bool {
         || film.recording == other.recording
 }
 
-/// The report's name, if it is that of a film, of a recording or of an index.
+/// The report's name, if it is that of a film, of a recording or of a file beside one.
 fn named_as_report<'a>(names: &[Names<'_>], report: Option<&'a str>) -> Option<&'a str> {
     let report = report?;
     for film in names {
-        if film.file == report || film.recording.as_str() == report || is_index_of(report, film) {
+        if film.file == report || film.recording.as_str() == report || is_beside(report, film) {
             return Some(report);
         }
     }

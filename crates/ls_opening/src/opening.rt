@@ -7,8 +7,8 @@ ghost use Rattle.ls_console.specs.View.Readers.{unread};
 ghost use Rattle.ls_opening.specs.View.Devices.{AreDevicesOf, IsWriterFor, target_of};
 
 use crate::film::Film;
-use crate::found::{Found, has_index, has_index_at, is_met, written_twice};
-use crate::limited::{Limit, Limited};
+use crate::found::{Found, has_beside_at, index_to_claim, is_met, times_to_claim, written_twice};
+use crate::limited::{Course, Limited};
 use crate::names::Names;
 use crate::refusal::Refusal;
 use ls_archive::{Follower, Indexing};
@@ -19,6 +19,7 @@ use ls_frame::{Counted, Outlet, Tuning};
 use std::alloc::{AllocError, Global};
 use std::rt::Files;
 use std::sync::Wait;
+use std::sync::atomic::AtomicU64;
 use std::thread::Parker;
 use std::time::Duration;
 
@@ -44,13 +45,13 @@ const PAUSE: u64 = 10;
 
 /// Opens each film but the named pipes. Only then, if no file is a duplicate or is being made by another program,
 /// makes the files of the report and of each recording. The devices are those of the films, in the order of the names,
-/// and so are the limits, if there are any.
+/// and so are the courses, if there are any.
 pub fn open_films<'a, R, O, E>(
     rt: &R,
     opener: O,
     asked: &RecordRequest<'a>,
     names: &'a [Names<'a>],
-    limits: &'a [Limit],
+    courses: &'a [Course],
     console: &mut Console<E>,
 ) -> Result<Opened<'a, O>, Refusal<'a>>
 where
@@ -64,7 +65,7 @@ where
         opener,
         asked,
         names,
-        limits,
+        courses,
     };
     let sources = opening.open_sources()?;
     let Made {
@@ -80,7 +81,7 @@ where
     })
 }
 
-/// The opening of films: the runtime and its opener, what is asked for, the films' names, and their limits, if they have
+/// The opening of films: the runtime and its opener, what is asked for, the films' names, and their courses, if they have
 /// any.
 #[derive(Drop)]
 struct Opening<'o, 'a, R, O> {
@@ -88,7 +89,7 @@ struct Opening<'o, 'a, R, O> {
     opener: O,
     asked: &'o RecordRequest<'a>,
     names: &'a [Names<'a>],
-    limits: &'a [Limit],
+    courses: &'a [Course],
 }
 
 /// The films and the report, once every lock is taken and before anything is changed.
@@ -173,7 +174,7 @@ where
         Ok(())
     }
 
-    /// Locks existing files at the places of the report, of recordings and of their indexes, unless one is a
+    /// Locks existing files at the places of the report, of recordings and of the files beside them, unless one is a
     /// duplicate.
     fn claim(&self, sources: &[Source<'a, O>]) -> Result<Claimed<'a, O>, Refusal<'a>>
         ensures { IfOk result (λ claimed. AllZip (λ names film. film.names.now ≡ names) self.now.names.now claimed.films.items) }
@@ -213,7 +214,7 @@ where
         };
         let place = Place::of(self.rt, path);
         let replace = self.asked.replace;
-        if films.iter().any(|film| is_met(film, &place, replace) || has_index_at(film, &place)) {
+        if films.iter().any(|film| is_met(film, &place, replace) || has_beside_at(film, &place)) {
             return Err(Refusal::Twice(path));
         }
         Ok(Some(place))
@@ -223,13 +224,13 @@ where
     fn claim_report(&self, place: &Place<'a>) -> Result<ClaimedReport<'a, O>, Refusal<'a>> {
         let path = place.path();
         let alloc = self.rt.alloc();
-        match Keeper::claim(alloc, self.opener, place, None, self.asked.replace) {
+        match Keeper::claim(alloc, self.opener, place, None, None, self.asked.replace) {
             Ok(keeper) => Ok(ClaimedReport { path, keeper }),
             Err(unmade) => Err(Refusal::Unmade(path, unmade.fault)),
         }
     }
 
-    /// Locks existing files at the places of recordings and their indexes.
+    /// Locks existing files at the places of recordings and of the files beside them.
     fn claim_films(
         &self,
         found: &[Found<'a>],
@@ -240,8 +241,9 @@ where
         let alloc = self.rt.alloc();
         let mut films = Vec::new(alloc);
         for film in found {
-            let has_index = has_index(film, found, report);
-            films.push(Film::claim(alloc, self.opener, film, has_index, self.asked.replace)?)?;
+            let index = index_to_claim(film, found, report);
+            let times = times_to_claim(film, found, report);
+            films.push(Film::claim(alloc, self.opener, film, index, times, self.asked.replace)?)?;
         }
         Ok(films)
     }
@@ -261,8 +263,9 @@ where
         let mut devices = Vec::new(alloc);
         for film in self.names {
             let (source, writer) = (sources.remove(0), writers.remove(0));
-            let reader = reader_of(alloc, film, source, self.asked.keep_open, console)?;
-            let limited = Limited::new(reader, self.limits.get(devices.len()));
+            let course = self.courses.get(devices.len());
+            let reader = reader_of(alloc, film, source, course, self.asked.keep_open, console)?;
+            let limited = Limited::new(reader, course);
             devices.push((limited, writer, self.asked.tuning))?;
         }
         Ok(devices)
@@ -309,7 +312,7 @@ where
     }
 }
 
-/// Makes the file of each recording, and that of its index if it is to have one, and returns their writers.
+/// Makes the file of each recording, and those beside it that it is to have, and returns their writers.
 fn make_recordings<'a, O, E>(
     alloc: Global,
     films: &mut [Film<'a, O>],
@@ -332,16 +335,22 @@ where
 fn writer_of<'a, O: Opens + Drop>(alloc: Global, targets: Targets<'a, O>) -> Writer<'a, O>
     ensures { target_of result ≡ targets.entry.recording }
 {
-    let Targets { recording, index } = targets;
+    let Targets {
+        recording,
+        index,
+        ..
+    } = targets;
     let follower = index.map(|target| Follower::new(alloc, Counted::new(target)));
     Indexing::new(Counted::new(recording), follower)
 }
 
-/// The reader of a film, with a buffer. If its pipe isn't kept open, says on a terminal that it is waited for.
+/// The reader of a film, with a buffer, which notes on its course when bytes come, if that is wanted. If its pipe isn't
+/// kept open, says on a terminal that it is waited for.
 fn reader_of<'a, O, E>(
     alloc: Global,
     names: &'a Names<'a>,
     mut source: Source<'a, O>,
+    course: Option<&'a Course>,
     keep_open: bool,
     console: &mut Console<E>,
 ) -> Result<Reader<'a, O>, Refusal<'a>>
@@ -350,6 +359,9 @@ where
     E: Outlet,
     ensures { IfOk result (λ reader. unread O.File.remaining reader ≡ left_in_source O.File.remaining source.entry) }
 {
+    if let Some(arrival) = arrival_of(course) {
+        source.time_into(arrival);
+    }
     if !keep_open && source.is_awaited() && console.is_terminal() {
         source.announce(names.notice.as_str());
         let file = Shown(names.file);
@@ -359,4 +371,9 @@ where
         Ok(reader) => Ok(reader),
         Err(_said) => Err(Refusal::Said),
     }
+}
+
+/// Where a film's file puts the time at which bytes came, if that is wanted.
+fn arrival_of<'a>(course: Option<&'a Course>) -> Option<&'a AtomicU64> {
+    course?.arrival()
 }

@@ -140,6 +140,10 @@ impl<'m, 'v> Opens for Memory<'m, 'v> {
 
     fn stop(&self) {}
 
+    fn now(&self) -> u64 {
+        0
+    }
+
     fn wake(&self, _path: &str) {}
 }
 

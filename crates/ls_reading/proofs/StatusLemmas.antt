@@ -13,7 +13,7 @@ use Rattle.ls_film.specs.declared.playing.PlayFault.{PlayFault}
 use Rattle.ls_film.specs.View.Playing.{Stops, StopsAhead}
 use Rattle.ls_reading.specs.View.Commands.{IsPart, PlaysPart, ShowsPartOf, HaveSameFrames}
 use Rattle.ls_reading.specs.View.Indexes.{HasCoded}
-use Rattle.ls_reading.specs.View.Statuses.{verdict_status}
+use Rattle.ls_reading.specs.View.Statuses.{DoneOrFailed, verdict_status}
 
 -- playing one by one stops as playing ahead does
 pub stops_ahead : (read read' written written' : Option (List ℕ)) (outcome : Result ℕ PlayFault) → IfErr outcome (Stops read read' written written')
@@ -29,6 +29,17 @@ not-both status failed done = let one : status ≡ 1 = failed in let zero : stat
 pub done_before : (status after : ℕ) → (after ≡ status) ⊎ (after ≡ FAILED) → after ≡ DONE → status ≡ DONE
 done_before status after (inl same) done = sym same ∙ done
 done_before status after (inr failed) done = absurd (not-both after failed done)
+
+-- an outcome's status is 0 or 1
+pub concluded : {T E : Type 0} (outcome : Result T E) (status : ℕ) → MatchResult outcome (λ _. status ≡ DONE) (λ _. status ≡ FAILED) → DoneOrFailed status
+concluded (Ok value) status is = inl is
+concluded (Err fault) status is = inr is
+
+-- and so is the status after the last flush
+pub flushed : (status after : ℕ) → (after ≡ status) ⊎ (after ≡ FAILED) → DoneOrFailed status → DoneOrFailed after
+flushed status after (inl same) (inl done) = inl (same ∙ done)
+flushed status after (inl same) (inr failed) = inr (same ∙ failed)
+flushed status after (inr failed) is = inr failed
 
 -- a part was shown if the status is 0
 module _ {O : Type 0} (holds : O → List ℕ → Option (List ℕ) → Type 0) (opener : O) (path : List ℕ) (written written' : Option (List ℕ)) where

@@ -43,7 +43,8 @@ impl Draft {
         if !(is_free(&opener, path, console) && is_free(&opener, part, console)) {
             return Err(FAILED);
         }
-        match Keeper::claim(rt.alloc(), opener, &Place::of(rt, part), None, false) {
+        let place = Place::of(rt, part);
+        match Keeper::claim(rt.alloc(), opener, &place, None, None, false) {
             Ok(keeper) => make_file(rt.alloc(), part, keeper, console),
             Err(unmade) => Err(say_unmade(part, unmade.fault, console)),
         }

@@ -29,7 +29,7 @@ where
         return Err(say_twice(path, console));
     }
     let alloc = rt.alloc();
-    match Keeper::claim(alloc, opener, &place, None, false) {
+    match Keeper::claim(alloc, opener, &place, None, None, false) {
         Ok(keeper) => make_file(alloc, path, keeper, console),
         Err(unmade) => Err(say_unmade(path, unmade.fault, console)),
     }

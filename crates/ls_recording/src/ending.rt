@@ -10,6 +10,7 @@ ghost use Rattle.ls_recording.specs.View.Films.{IsComplete, IsWhole, was_stopped
 
 use crate::recording::{FilmTrack, Recorded};
 use crate::watching::Watch;
+use crate::watching::times::{FilmTimes, TimesFile};
 use ls_archive::{Follower, IndexFault};
 use ls_command::MOST_FILMS;
 use ls_console::{
@@ -18,14 +19,15 @@ use ls_console::{
 };
 use ls_files::{Makes, Opens, Target, Targets};
 use ls_frame::{Counted, Failed, NetpbmFault, Outlet};
-use ls_opening::Film;
+use ls_opening::{Film, Synced};
 use ls_recorder::{LaneFault, Track};
 use std::alloc::{AllocError, Global};
 use std::io::Write;
+use std::sync::Wait;
 use std::time::Clock;
 
-/// The ends of all films: their files, and whether each film was recorded completely and is on the disk with its index,
-/// if it has one.
+/// The ends of all films: their files, and whether each film was recorded completely and is on the disk with its index
+/// and its times, if it has them.
 #[derive(Drop)]
 pub struct Ends<'a, O: Opens> {
     pub files: Vec<Targets<'a, O>>,
@@ -42,25 +44,34 @@ struct End<'a, O: Opens> {
 /// Settles each film's files that aren't settled yet, says why it stopped, if it did and that wasn't said, and returns
 /// the films' files. If no recording began, or memory runs out, says so and returns none: then not all are recorded.
 pub fn end_films<'a, R, O, E>(
-    alloc: Global,
+    rt: &R,
     watch: &Watch<'_, R>,
+    times: &[FilmTimes<'a, O>],
     count: Option<u64>,
     films: &mut [Film<'_, O>],
     recorded: Recorded<'a, O>,
     console: &mut Console<E>,
 ) -> Ends<'a, O>
 where
-    R: Clock,
+    R: AllocGlobal + Clock + Wait,
     O: Makes + Copy,
     E: Outlet,
     ensures { result.are_whole ≡ true → MatchResult recorded.entry (λ recording. AllZip (IsWhole count) recording.tracks.items result.files.items) (λ _. ⊥) }
 {
     match recorded {
-        Ok(recording) => match end_tracks(alloc, watch, count, films, recording.tracks, console) {
+        Ok(recording) => match end_tracks(
+            rt,
+            watch,
+            times,
+            count,
+            films,
+            recording.tracks,
+            console,
+        ) {
             Ok(ends) => ends,
             Err(AllocError) => {
                 no_memory(console);
-                no_files(alloc)
+                no_files(rt.alloc())
             }
         },
         Err((fault, _devices)) => {
@@ -68,7 +79,7 @@ where
             for film in films.iter_mut() {
                 film.give_back();
             }
-            no_files(alloc)
+            no_files(rt.alloc())
         }
     }
 }
@@ -85,29 +96,32 @@ fn no_files<'a, O: Opens>(alloc: Global) -> Ends<'a, O>
 
 /// Settles each film's files that aren't settled yet, and says why it stopped, if it did and that wasn't said.
 fn end_tracks<'a, R, O, E>(
-    alloc: Global,
+    rt: &R,
     watch: &Watch<'_, R>,
+    times: &[FilmTimes<'a, O>],
     count: Option<u64>,
     films: &mut [Film<'_, O>],
     mut tracks: Vec<FilmTrack<'a, O>>,
     console: &mut Console<E>,
 ) -> Result<Ends<'a, O>, AllocError>
 where
-    R: Clock,
+    R: AllocGlobal + Clock + Wait,
     O: Makes + Copy,
     E: Outlet,
     ensures { IfOk result (λ ends. ends.are_whole ≡ true → AllZip (IsWhole count) tracks.entry.items ends.files.items) }
 {
     let mut told = [false; MOST_FILMS];
     watch.told(&mut told);
-    let mut files = Vec::new(alloc);
+    let mut files = Vec::new(rt.alloc());
     let mut are_whole = true;
     for film in films.iter_mut() {
         if !tracks.is_empty() {
             let track = tracks.remove(0);
             let number = files.len();
             let written = watch.written(number);
-            let end = say_end(film, track, count, written, is_told(&told, number), console);
+            let own_times = take_times(rt, times, number);
+            let was_told = is_told(&told, number);
+            let end = say_end(film, track, own_times, count, written, was_told, console);
             are_whole = are_whole & end.is_whole;
             files.push(end.files)?;
         }
@@ -156,11 +170,31 @@ where
 /// Releases the files of recordings.
 pub fn release<O: Opens + Drop>(files: Vec<Targets<'_, O>>) {
     for recorded in files {
-        recorded.recording.release();
-        if let Some(index) = recorded.index {
-            index.release();
-        }
+        let Targets {
+            recording,
+            index,
+            times,
+        } = recorded;
+        recording.release();
+        release_beside(index);
+        release_beside(times);
     }
+}
+
+/// Releases a file beside a recording, if there is one.
+fn release_beside<O: Opens + Drop>(file: Option<Target<'_, O>>) {
+    if let Some(file) = file {
+        file.release();
+    }
+}
+
+/// The file of the times of the film of this number, which has ended, if it has one.
+fn take_times<'a, R: Wait, O: Opens + Drop>(
+    rt: &R,
+    times: &[FilmTimes<'a, O>],
+    film: usize,
+) -> Option<TimesFile<'a, O>> {
+    times.get(film)?.end(rt)
 }
 
 /// Whether it was said why the film of this number stopped.
@@ -176,6 +210,7 @@ fn is_told(told: &[bool], film: usize) -> bool {
 fn say_end<'a, O, E>(
     film: &mut Film<'_, O>,
     track: FilmTrack<'a, O>,
+    times: Option<TimesFile<'a, O>>,
     count: Option<u64>,
     written: u64,
     was_told: bool,
@@ -221,15 +256,41 @@ where
     if let Some(name) = film.left_over() {
         console.mention(names.recording.as_str(), name);
     }
+    let (index, times) = end_beside(film, follower, broken, times, synced, console);
+    film.frames = frames;
+    End {
+        files: Targets {
+            recording,
+            index,
+            times,
+        },
+        is_whole: frames.is_some() && !film.is_beside_broken,
+    }
+}
+
+/// Says why the files beside a recording aren't whole, if they aren't, and returns those that it has: its index, and the
+/// times of its frames.
+fn end_beside<'a, O, E>(
+    film: &mut Film<'_, O>,
+    follower: Option<Follower<Counted<Target<'a, O>>>>,
+    broken: Option<IndexFault>,
+    times: Option<TimesFile<'a, O>>,
+    synced: Synced,
+    console: &mut Console<E>,
+) -> (Option<Target<'a, O>>, Option<Target<'a, O>>)
+where
+    O: Makes + Copy + Drop,
+    E: Outlet,
+{
     let index = match follower {
         Some(follower) => Some(end_index(film, follower, synced.index, broken, console)),
         None => None,
     };
-    film.frames = frames;
-    End {
-        files: Targets { recording, index },
-        is_whole: frames.is_some() && !film.is_index_broken,
-    }
+    let times = match times {
+        Some(times) => Some(end_times(film, times, synced.times, console)),
+        None => None,
+    };
+    (index, times)
 }
 
 /// Says why the index of a film isn't whole, if it isn't, and returns its file.
@@ -253,7 +314,31 @@ where
         broken,
         console,
     );
-    film.is_index_broken = !is_whole;
+    film.is_beside_broken = !is_whole;
+    target
+}
+
+/// Says why not all times of a film were written, if they weren't, and returns their file.
+fn end_times<'a, O, E>(
+    film: &mut Film<'_, O>,
+    times: TimesFile<'a, O>,
+    synced: Result<(), Failed>,
+    console: &mut Console<E>,
+) -> Target<'a, O>
+where
+    O: Makes + Copy + Drop,
+    E: Outlet,
+{
+    let broken = times.fault.map(|fault| (fault, fault.cause()));
+    let path = film.names.times.as_str();
+    let EndedIndex { is_whole, target } = say_index_end(
+        path,
+        times.output,
+        synced,
+        broken,
+        console,
+    );
+    film.is_beside_broken = film.is_beside_broken | !is_whole;
     target
 }
 

@@ -12,12 +12,14 @@ use crate::watching::keeping::keep_files;
 use crate::watching::limiting::Limiting;
 use crate::watching::progress::Teller;
 use crate::watching::schedule::{Deadline, Syncs};
+use crate::watching::times::FilmTimes;
 use ls_command::RecordRequest;
 use ls_console::{DONE, FAILED, Host, Program, Reader, no_memory};
 use ls_files::{Makes, Opens, Targets};
 use ls_frame::{Feed, Outlet, Tuning};
-use ls_opening::{Devices, Film, Limit, Limited, Opened, Writer, names_once, open_films};
-use ls_recorder::{RecordFault, Recording as Tracks, Track, record};
+use ls_opening::{Course, Devices, Film, Limited, Opened, Writer, names_once, open_films};
+use ls_recorder::{Gate, RecordFault, Recording as Tracks, Track, record};
+use std::alloc::{AllocError, Global};
 use std::io::Write;
 use std::sync::Wait;
 use std::thread;
@@ -60,7 +62,8 @@ where
         Ok(names) => names,
         Err(refusal) => return refusal.say(program.console),
     };
-    let Ok(limits) = Limit::of_each(program.rt.alloc(), names.len(), asked.count) else {
+    let alloc = program.rt.alloc();
+    let Ok(courses) = Course::of_each(alloc, names.len(), asked.count, asked.times) else {
         return no_memory(program.console);
     };
     match open_films(
@@ -68,10 +71,10 @@ where
         program.opener,
         &asked,
         &names,
-        &limits,
+        &courses,
         program.console,
     ) {
-        Ok(opened) => record_opened(program, &asked, &limits, opened),
+        Ok(opened) => record_opened(program, &asked, &courses, opened),
         Err(refusal) => refusal.say(program.console),
     }
 }
@@ -82,7 +85,7 @@ where
 fn record_opened<'a, R, O, W, E>(
     program: Program<'_, R, O, W, E>,
     asked: &'a RecordRequest<'a>,
-    limits: &'a [Limit],
+    courses: &'a [Course],
     opened: Opened<'a, O>,
 ) -> u8
 where
@@ -104,6 +107,9 @@ where
         devices,
         report,
     } = opened;
+    let Ok(times) = times_of(rt.alloc(), opener, &mut films) else {
+        return no_memory(console);
+    };
     let is_telling = asked.progress || console.is_terminal();
     let is_timed = is_telling || report.is_some();
     let Ok(watch) = Watch::new(rt, rt.alloc(), films.len(), asked.count, is_timed) else {
@@ -122,7 +128,7 @@ where
         is_telling,
     };
     let recorded = record_watched(
-        rt, opener, asked, limits, &watch, &mut films, teller, devices,
+        rt, opener, asked, courses, &times, &watch, &mut films, teller, devices,
     );
     let program = Program {
         rt,
@@ -131,7 +137,9 @@ where
         console: &mut *console,
     };
     let count = asked.count;
-    let Finished { status, files } = finish_films(program, &watch, count, &mut films, recorded);
+    let Finished { status, files } = finish_films(
+        program, &watch, &times, count, &mut films, recorded,
+    );
     release(files);
     match report {
         Some(report) => {
@@ -144,13 +152,29 @@ where
     }
 }
 
+/// The times of the films' frames, if files were made for these.
+fn times_of<'a, O: Makes + Copy + Drop>(
+    alloc: Global,
+    opener: O,
+    films: &mut [Film<'a, O>],
+) -> Result<Vec<FilmTimes<'a, O>>, AllocError> {
+    let mut times = Vec::new(alloc);
+    for film in films.iter_mut() {
+        if let Some(target) = film.take_times() {
+            times.push(FilmTimes::new(alloc, opener, target)?)?;
+        }
+    }
+    Ok(times)
+}
+
 /// Records films while one thread keeps their files, and another keeps the time and says progress. If no thread can be
 /// started for one of them, its work comes once the recording has ended; the other does its own meanwhile.
 fn record_watched<'a, R, O, W, E>(
     rt: &R,
     opener: O,
     asked: &RecordRequest<'_>,
-    limits: &[Limit],
+    courses: &[Course],
+    times: &[FilmTimes<'a, O>],
     watch: &Watch<'_, R>,
     films: &mut [Film<'a, O>],
     teller: Teller<'_, R, O, W, E>,
@@ -165,18 +189,23 @@ where
     ensures { IfOk result (λ recording. AllZip (HasTrack (left_of O.File.remaining) (held O.File.contents)) devices.entry.items recording.tracks.items) }
 {
     let syncs = Syncs::new(asked);
+    let gate = Limiting {
+        watch,
+        courses,
+        times,
+    };
     let films = &mut *films;
     let keep = move || keep_files(rt, opener, watch, syncs, films);
     let tell = move || teller.tell();
-    record_beside(rt, asked, limits, watch, keep, tell, devices)
+    record_beside(rt, asked, &gate, watch, keep, tell, devices)
 }
 
 /// Records films while two other calls go on, each in a thread of its own; or it comes after the recording if no thread
 /// can be started for it. They end soon after the watch says that the recording has ended.
-fn record_beside<R, F, W, K, T>(
+fn record_beside<R, G, F, W, K, T>(
     rt: &R,
     asked: &RecordRequest<'_>,
-    limits: &[Limit],
+    gate: &G,
     watch: &Watch<'_, R>,
     first: K,
     second: T,
@@ -184,6 +213,7 @@ fn record_beside<R, F, W, K, T>(
 ) -> Result<Tracks<F, W>, (RecordFault, Vec<(F, W, Tuning)>)>
 where
     R: AllocGlobal + Clock + Threads + Wait + Sync,
+    G: Gate,
     F: Feed + Send + Drop,
     W: Outlet + Send + Drop,
     K: FnOnce() + Send,
@@ -198,22 +228,23 @@ where
         move || -> Result<Tracks<F, W>, (RecordFault, Vec<(F, W, Tuning)>)>
             requires { T.pre second }
             ensures { IfOk result (λ recording. AllZip (HasTrack F.remaining W.contents) films.items recording.tracks.items) }
-        { record_beside_one(rt, asked, limits, watch, second, films) },
+        { record_beside_one(rt, asked, gate, watch, second, films) },
     );
     recorded
 }
 
 /// Records films while another call goes on likewise.
-fn record_beside_one<R, F, W, T>(
+fn record_beside_one<R, G, F, W, T>(
     rt: &R,
     asked: &RecordRequest<'_>,
-    limits: &[Limit],
+    gate: &G,
     watch: &Watch<'_, R>,
     beside: T,
     films: Vec<(F, W, Tuning)>,
 ) -> Result<Tracks<F, W>, (RecordFault, Vec<(F, W, Tuning)>)>
 where
     R: AllocGlobal + Clock + Threads + Wait + Sync,
+    G: Gate,
     F: Feed + Send + Drop,
     W: Outlet + Send + Drop,
     T: FnOnce() + Send,
@@ -225,29 +256,29 @@ where
         beside,
         move || -> Result<Tracks<F, W>, (RecordFault, Vec<(F, W, Tuning)>)>
             ensures { IfOk result (λ recording. AllZip (HasTrack F.remaining W.contents) films.items recording.tracks.items) }
-        { record_to_end(rt, asked, limits, watch, films) },
+        { record_to_end(rt, asked, gate, watch, films) },
     );
     recorded
 }
 
-/// Records films, and marks the recording as ended.
-fn record_to_end<R, F, W>(
+/// Records films past a gate, and marks the recording as ended.
+fn record_to_end<R, G, F, W>(
     rt: &R,
     asked: &RecordRequest<'_>,
-    limits: &[Limit],
+    gate: &G,
     watch: &Watch<'_, R>,
     films: Vec<(F, W, Tuning)>,
 ) -> Result<Tracks<F, W>, (RecordFault, Vec<(F, W, Tuning)>)>
 where
     R: AllocGlobal + Clock + Threads + Wait + Sync,
+    G: Gate,
     F: Feed + Send + Drop,
     W: Outlet + Send + Drop,
     ensures tracks { IfOk result (λ recording. AllZip (HasTrack F.remaining W.contents) films.items recording.tracks.items) }
     ensures refused { IfErr result (λ refused. IsRefused asked.now films.items refused.0 refused.1.items) }
 {
     let (workers, capacity, window) = (asked.workers, asked.capacity, asked.window);
-    let gate = Limiting { watch, limits };
-    let recorded = record(rt, rt.alloc(), films, workers, capacity, window, &gate);
+    let recorded = record(rt, rt.alloc(), films, workers, capacity, window, gate);
     watch.end();
     recorded
 }
@@ -257,12 +288,13 @@ where
 fn finish_films<'a, R, O, W, E>(
     program: Program<'_, R, O, W, E>,
     watch: &Watch<'_, R>,
+    times: &[FilmTimes<'a, O>],
     count: Option<u64>,
     films: &mut [Film<'_, O>],
     recorded: Recorded<'a, O>,
 ) -> Finished<'a, O>
 where
-    R: AllocGlobal + Clock,
+    R: AllocGlobal + Clock + Wait,
     O: Makes + Copy,
     W: Write,
     E: Outlet,
@@ -274,7 +306,7 @@ where
         console,
         ..
     } = program;
-    let Ends { files, are_whole } = end_films(rt.alloc(), watch, count, films, recorded, console);
+    let Ends { files, are_whole } = end_films(rt, watch, times, count, films, recorded, console);
     let said = say_counts(rt.alloc(), watch, films, output, console);
     Finished {
         status: status_of(are_whole, said),

@@ -1,5 +1,6 @@
 //! Watches a recording while it goes on: a gate that counts and takes times, for the thread that keeps the films' files,
 //! for the one that keeps the time and says progress, and for a report.
+mod distances;
 mod film;
 pub mod keeping;
 pub mod limiting;
@@ -8,6 +9,7 @@ mod pace;
 pub mod progress;
 pub mod schedule;
 pub mod seen;
+pub mod times;
 
 use film::FilmWatch;
 use ls_recorder::{Gate, LaneFault, Moment, Notice};

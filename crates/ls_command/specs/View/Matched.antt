@@ -76,6 +76,7 @@ module _ (words : ArgMatches) where
     pub progress : IsGiven (codes "progress") asked.progress
     pub report : HasText (codes "report") (text_in asked.report)
     pub index : IsGiven (codes "index") asked.index
+    pub times : IsGiven (codes "times") asked.times
     pub sync : ReadsNumber (2 ^ 64) (codes "sync") (Some asked.sync)
     pub keep_open : IsGiven (codes "keep-open") asked.keep_open
     pub count : ReadsNumber (2 ^ 64) (codes "count") asked.count

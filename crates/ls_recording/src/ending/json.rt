@@ -68,8 +68,9 @@ fn add_numbers(alloc: Global, report: &mut String, seen: &Seen) -> Result<(), Al
         seen.since.saturating_sub(seen.first)
     };
     let (frames, bytes_in, bytes_out) = (seen.written, seen.bytes_in, seen.bytes_out);
+    let late = seen.late;
     let counts = format!(in alloc;
-        ", \"frames\": {frames}, \"bytes_in\": {bytes_in}, \"bytes_out\": {bytes_out}"
+        ", \"frames\": {frames}, \"late_frames\": {late}, \"bytes_in\": {bytes_in}, \"bytes_out\": {bytes_out}"
     )?;
     report.push_str(&counts)?;
     for (name, nanoseconds) in [

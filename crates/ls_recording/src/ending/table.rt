@@ -6,7 +6,7 @@ use std::alloc::{AllocError, Global};
 
 /// The columns' names, with their units. Each name but the last ends where its numbers end.
 const HEAD: &str =
-    "    frames         bytes-in        bytes-out    ratio      seconds   frames/s   delay-ms   window-s    queue-s film\n";
+    "    frames         bytes-in        bytes-out    ratio      seconds   frames/s   delay-ms   window-s    queue-s     late film\n";
 
 /// The line with the columns' names.
 pub fn head(alloc: Global) -> Result<String, AllocError> {
@@ -66,11 +66,12 @@ fn add_times(alloc: Global, table: &mut String, seen: &Seen, time: u64) -> Resul
     add_waits(alloc, table, seen)
 }
 
-/// Adds the times that a film waited.
+/// Adds the times that a film waited, and the number of its frames that were late.
 fn add_waits(alloc: Global, table: &mut String, seen: &Seen) -> Result<(), AllocError> {
     let window = seconds_text(alloc, seen.window_wait)?;
     let queue = seconds_text(alloc, seen.queue_wait)?;
-    let waits = format!(in alloc; " {window:>10} {queue:>10}")?;
+    let late = seen.late;
+    let waits = format!(in alloc; " {window:>10} {queue:>10} {late:>8}")?;
     table.push_str(&waits)
 }
 

@@ -1,4 +1,5 @@
 //! The counts and times of one film.
+use super::distances::Distances;
 use super::seen::{Doing, Seen};
 use crate::ending::outcome_of;
 use ls_recorder::{LaneFault, MOST_WINDOW, Notice};
@@ -28,6 +29,8 @@ pub struct FilmWatch {
     queue_wait: AtomicU64,
     /// When each frame that isn't written yet was read, at its number modulo the widest window.
     read_at: Vec<AtomicU64>,
+    /// How far apart its frames were read.
+    distances: Distances,
     end: OnceLock<Result<u64, LaneFault>>,
     /// Whether its lane has ended.
     is_over: AtomicBool,
@@ -62,6 +65,7 @@ impl FilmWatch {
             window_wait: zero(),
             queue_wait: zero(),
             read_at,
+            distances: Distances::new(alloc)?,
             end: OnceLock::new(),
             is_over: AtomicBool::new(false),
             is_settled: AtomicBool::new(false),
@@ -106,8 +110,14 @@ impl FilmWatch {
     /// Counts a frame that was read.
     fn take_read(&self, number: u64, bytes: u64, now: u64) {
         let _since = self.turn(now);
-        if number == 0 {
-            self.first.store(now, Ordering::SeqCst);
+        match number.checked_sub(1) {
+            None => self.first.store(now, Ordering::SeqCst),
+            Some(before) => {
+                if let Some(read_at) = self.place_of(before) {
+                    let distance = now.saturating_sub(read_at.load(Ordering::SeqCst));
+                    self.distances.add(distance);
+                }
+            }
         }
         if let Some(read_at) = self.place_of(number) {
             read_at.store(now, Ordering::SeqCst);
@@ -152,6 +162,7 @@ impl FilmWatch {
             delay: self.delay.load(Ordering::SeqCst),
             window_wait: self.window_wait.load(Ordering::SeqCst),
             queue_wait: self.queue_wait.load(Ordering::SeqCst),
+            late: self.distances.late(),
         }
     }
 

@@ -1,26 +1,60 @@
-//! Ends films after as many frames of each as were asked for.
+//! Ends films after as many frames of each as were asked for, and has the times of their frames written.
 use super::Watch;
-use ls_opening::Limit;
+use super::times::FilmTimes;
+use ls_files::Opens;
+use ls_opening::Course;
 use ls_recorder::{Gate, Moment, Notice};
+use std::sync::Wait;
 use std::time::Clock;
 
-/// A gate that notes which frames were read at the films' limits, if they have any, and passes everything on to a watch.
+/// A gate that notes on the films' courses, if they have any, which frames are read; has their times written, if those are
+/// wanted; and passes everything on to a watch.
 #[derive(Drop)]
-pub struct Limiting<'w, 'r, R> {
+pub struct Limiting<'w, 'r, 'c, 't, 'a, R, O: Opens> {
     pub watch: &'w Watch<'r, R>,
-    pub limits: &'w [Limit],
+    pub courses: &'c [Course],
+    pub times: &'t [FilmTimes<'a, O>],
 }
 
-impl<'w, 'r, R: Clock + Sync> Gate for Limiting<'w, 'r, R> {
+impl<'w, 'r, 'c, 't, 'a, R, O> Limiting<'w, 'r, 'c, 't, 'a, R, O>
+where
+    R: Wait,
+    O: Opens + Drop,
+{
+    /// Notes an event of the film of this number, which has this course.
+    fn note(&self, course: &Course, film: usize, notice: Notice) {
+        match notice {
+            Notice::Reading(_) => course.begin(),
+            Notice::Read { number, .. } => {
+                course.note(number);
+                if let Some(times) = self.times.get(film) {
+                    times.note(number, course.times());
+                }
+            }
+            Notice::Written { number, .. } => {
+                if let Some(times) = self.times.get(film) {
+                    times.write(self.watch.clock, number);
+                }
+            }
+            _ => {}
+        }
+    }
+}
+
+impl<'w, 'r, 'c, 't, 'a, R, O> Gate for Limiting<'w, 'r, 'c, 't, 'a, R, O>
+where
+    R: Clock + Wait + Sync,
+    O: Opens + Drop + Send,
+    O::File: Send,
+{
     fn pass(&self, source: u8, number: u64, moment: Moment) {
         self.watch.pass(source, number, moment);
     }
 
     fn notice(&self, source: u8, notice: Notice) {
-        if let Notice::Read { number, .. } = notice {
-            if let Some(limit) = self.limits.get(usize::from(source)) {
-                limit.note(number);
-            }
+        let film = usize::from(source);
+        if let Some(course) = self.courses.get(film) {
+            self.note(course, film, notice);
         }
         self.watch.notice(source, notice);
     }

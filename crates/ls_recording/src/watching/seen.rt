@@ -33,4 +33,6 @@ pub struct Seen {
     /// The time that it waited for places in the window, and in the queue.
     pub window_wait: u64,
     pub queue_wait: u64,
+    /// The number of frames that were read later after the one before than twice the median of these times.
+    pub late: u64,
 }

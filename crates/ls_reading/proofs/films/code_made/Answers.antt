@@ -1,7 +1,10 @@
 use Rattle.std.proofs.Common.{ap, ◌∙◌}
 use Rattle.ls_files.specs.View.Files.{held_by_target}
-use Rattle.ls_reading.proofs.StatusLemmas.{done_before, has-coded}
+use Rattle.ls_reading.proofs.StatusLemmas.{concluded, done_before, flushed, has-coded}
 use Rattle.ls_reading.proofs.films.code_made.Goals as goal
+
+pub returns-clause-status : goal.returns-clause-status
+returns-clause-status g c = flushed _ _ c.of.ensures.status (concluded _ _ c.conclude-status.ensures)
 
 pub returns-clause-codes : goal.returns-clause-codes
 returns-clause-codes g c = λ done.

@@ -1,5 +1,8 @@
 use Rattle.ls_reading.proofs.into.show_one.Goals as goal
 
+pub returns-clause-status : goal.returns-clause-status
+returns-clause-status g c = c.end.ensures.status c.show-status.ensures.status
+
 pub returns-clause-played : goal.returns-clause-played
 returns-clause-played g c = λ done. record {
   made = c.new-output.result.inner.file;
