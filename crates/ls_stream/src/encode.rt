@@ -1,4 +1,5 @@
 //! Encoding frames as codestreams (T.87 Annex C).
+mod beside;
 mod coder;
 mod row;
 mod scan;
@@ -15,6 +16,7 @@ use crate::marker::Marker;
 use crate::segments::write::{
     presets_length, put_frame_header, put_marker, put_presets_if_needed, put_scan_header,
 };
+pub use beside::encode_side_by_side;
 use ls_bits::{Room, SliceRoom};
 use ls_frame::{Frame, Presets};
 use scan::put_scan;

@@ -47,8 +47,8 @@ pub use arranged::{ArrangedView, Arrangement};
 pub use buffers::Lines;
 pub use decode::{Decoded, Opening, decode_frame};
 pub use encode::{
-    code_bound, encode_frame, encode_into, encode_picture, encode_with, encode_within,
-    picture_bound,
+    code_bound, encode_frame, encode_into, encode_picture, encode_side_by_side, encode_with,
+    encode_within, picture_bound,
 };
 pub use faults::{StreamFault, What};
 pub use ls_coding::Regions;

@@ -10,7 +10,7 @@ use Rattle.ls_coding.specs.contracts.state.State as state
 use Rattle.ls_coding.specs.contracts.plan.Plan as plan
 use Rattle.ls_coding.proofs.RegularLemmas.{context_small, number_same, prediction_small, value_same, stepped_same, sample_by}
 use Rattle.ls_coding.proofs.StateLemmas.{alike_parameters, alike}
-use Rattle.ls_coding.proofs.state.State.accept_sure.Goals as goal
+use Rattle.ls_coding.proofs.state.State.accept_sure_with.Goals as goal
 
 made_by : (c : goal.After-plan) → plan.the_view c.plan.inside ≡ regular_plan (state.the_view c.self.inside) c.args.plan.neighbours
 made_by c = c.plan.view_is ∙ c.requires.plan ∙ ap (λ (t : Coding). regular_plan t c.args.plan.neighbours) (sym c.self.view_is)
@@ -23,6 +23,9 @@ accept_sure-requires-clause-number c =
 pub accept_sure-requires-clause-prediction : goal.accept_sure-requires-clause-prediction
 accept_sure-requires-clause-prediction c =
     prediction_small (state.the_view c.self.inside) c.args.plan.neighbours (plan.the_view c.plan.inside) c.plan.inside.prediction (made_by c) refl
+
+pub accept_sure-requires-clause-presets : goal.accept_sure-requires-clause-presets
+accept_sure-requires-clause-presets c = c.requires.presets ∙ ap (λ (t : Coding). t.parameters) (sym c.self.view_is)
 
 pub accept_sure-requires-clause-value : goal.accept_sure-requires-clause-value
 accept_sure-requires-clause-value c =

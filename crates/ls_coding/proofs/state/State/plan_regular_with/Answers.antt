@@ -7,7 +7,7 @@ use Rattle.ls_coding.specs.View.Plans.{Planned, regular_plan, IsReadBy}
 use Rattle.ls_coding.specs.Contexts.{context_of}
 use Rattle.ls_coding.proofs.ContextLemmas.{signed_range, signed_splits, context_through}
 use Rattle.ls_coding.proofs.RegularLemmas.{neighbours_of_regular, plan_in_view, read_regular}
-use Rattle.ls_coding.proofs.state.State.plan_regular_at.Goals as goal
+use Rattle.ls_coding.proofs.state.State.plan_regular_with.Goals as goal
 
 pub returns-clause-plan : goal.returns-clause-plan
 returns-clause-plan c =
@@ -46,3 +46,6 @@ pub plan-requires-clause-negative : goal.plan-requires-clause-negative
 plan-requires-clause-negative c =
     c.context_of_signed.ensures.negative ∙ ap (λ z. int_lt z (pos 0)) (context_through _ _ c.args.context c.requires.context) ∙ sym (signed_splits c.args.self.now.parameters c.args.neighbours.now).1
     ∙ ap (λ (t : Coding). (context_of t.parameters c.args.neighbours.now).negative) (sym c.self.view_is)
+
+pub plan-requires-clause-presets : goal.plan-requires-clause-presets
+plan-requires-clause-presets c = c.requires.presets ∙ ap (λ (t : Coding). t.parameters) (sym c.self.view_is)
