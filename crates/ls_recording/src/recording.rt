@@ -3,10 +3,10 @@ ghost use Rattle.std.specs.Prelude.{◌≡◌, true, List, IfOk, IfErr, MatchRes
 ghost use Rattle.std.specs.List.{AllZip};
 ghost use Rattle.ls_opening.specs.View.Devices.{left_of};
 ghost use Rattle.ls_recording.specs.View.Films.{HasTrack, IsRefused, IsWhole, IsRecorded, HasRecorded, held};
-ghost use Rattle.ls_files.specs.declared.keeper.Targets.{Targets};
+ghost use Rattle.ls_recording.specs.declared.ending.EndedFiles.{EndedFiles};
 
 use crate::ending::report::{report_of, write_report};
-use crate::ending::{Ends, end_films, release, say_counts};
+use crate::ending::{EndedFiles, Ends, end_films, release, say_counts};
 use crate::watching::Watch;
 use crate::watching::keeping::keep_files;
 use crate::watching::limiting::Limiting;
@@ -15,9 +15,9 @@ use crate::watching::schedule::{Deadline, Syncs};
 use crate::watching::times::FilmTimes;
 use ls_command::RecordRequest;
 use ls_console::{DONE, FAILED, Host, Program, Reader, no_memory};
-use ls_files::{Makes, Opens, Targets};
+use ls_files::Makes;
 use ls_frame::{Feed, Outlet, Tuning};
-use ls_opening::{Course, Devices, Film, Limited, Opened, Writer, names_once, open_films};
+use ls_opening::{Chain, Course, Devices, Film, Limited, Opened, Writer, names_once, open_films};
 use ls_recorder::{Gate, RecordFault, Recording as Tracks, Track, record};
 use std::alloc::{AllocError, Global};
 use std::io::Write;
@@ -40,14 +40,15 @@ pub type Recorded<'a, O> = Result<
 
 /// The end of a recording: the status to exit with, and the files of each film.
 #[derive(Drop)]
-struct Finished<'a, O: Opens> {
+struct Finished<'a, O: Makes> {
     status: u8,
-    files: Vec<Targets<'a, O>>,
+    files: Vec<EndedFiles<'a, O>>,
 }
 
 /// Records the films that are asked for, says how each ended, and returns the status. On a terminal progress is always
-/// shown. With `DONE` each film was recorded from its own file to its own recording, with the tuning asked for: to its
-/// end, as far as it was read when the program was asked to stop, or as many frames of it as are asked for.
+/// shown. With `DONE` each film was recorded from its own file to its own recording, or to pieces that are the recording
+/// one after the other, with the tuning asked for: to its end, as far as it was read when the program was asked to stop, or as
+/// many frames of it as are asked for.
 pub fn record_films<R, O, W, E>(program: Program<'_, R, O, W, E>, asked: RecordRequest<'_>) -> u8
 where
     R: Host + Clock + Threads + Wait + Sync,
@@ -55,7 +56,7 @@ where
     R::File: Send,
     W: Write + Send,
     E: Outlet + Send,
-    ensures { result ≡ DONE → HasRecorded O.holds R.File.remaining R.File.contents program.entry.opener asked.entry.tuning asked.entry.count asked.entry.files.items }
+    ensures { result ≡ DONE → HasRecorded O.holds R.File.remaining R.File.contents O.kept program.entry.opener asked.entry.tuning asked.entry.count asked.entry.files.items }
 {
     let columns = program.console.columns();
     let names = match names_once(program.rt.alloc(), &asked, columns) {
@@ -63,7 +64,11 @@ where
         Err(refusal) => return refusal.say(program.console),
     };
     let alloc = program.rt.alloc();
-    let Ok(courses) = Course::of_each(alloc, names.len(), asked.count, asked.times) else {
+    let Ok(courses) = Course::of_each(alloc, names.len(), asked.count, asked.times, asked.pieces)
+    else {
+        return no_memory(program.console);
+    };
+    let Ok(chains) = Chain::<O>::of_each(alloc, chains_of(&asked, names.len())) else {
         return no_memory(program.console);
     };
     match open_films(
@@ -72,11 +77,17 @@ where
         &asked,
         &names,
         &courses,
+        &chains,
         program.console,
     ) {
         Ok(opened) => record_opened(program, &asked, &courses, opened),
         Err(refusal) => refusal.say(program.console),
     }
+}
+
+/// The number of films whose recordings are cut into pieces, of as many as there are.
+fn chains_of(asked: &RecordRequest<'_>, films: usize) -> usize {
+    if asked.pieces.is_some() { films } else { 0 }
 }
 
 /// Records films whose files are open, says how each ended, writes the report, and returns the status. With `DONE` each
@@ -94,7 +105,7 @@ where
     O::File: Send,
     W: Write + Send,
     E: Outlet + Send,
-    ensures { result ≡ DONE → (files : List (Targets O O.File)) × AllZip (IsRecorded O.File.remaining O.File.contents asked.now.count) opened.entry.devices.items files }
+    ensures { result ≡ DONE → (files : List (EndedFiles O O.File O.Finished)) × AllZip (IsRecorded O.File.remaining O.File.contents O.kept asked.now.count) opened.entry.devices.items files }
 {
     let Program {
         rt,
@@ -161,7 +172,8 @@ fn times_of<'a, O: Makes + Copy + Drop>(
     let mut times = Vec::new(alloc);
     for film in films.iter_mut() {
         if let Some(target) = film.take_times() {
-            times.push(FilmTimes::new(alloc, opener, target)?)?;
+            let path = film.names.times.as_str();
+            times.push(FilmTimes::new(alloc, opener, path, target, film.cutting())?)?;
         }
     }
     Ok(times)
@@ -186,7 +198,7 @@ where
     O::File: Send,
     W: Write + Send,
     E: Outlet + Send,
-    ensures { IfOk result (λ recording. AllZip (HasTrack (left_of O.File.remaining) (held O.File.contents)) devices.entry.items recording.tracks.items) }
+    ensures { IfOk result (λ recording. AllZip (HasTrack (left_of O.File.remaining) (held O.File.contents O.kept)) devices.entry.items recording.tracks.items) }
 {
     let syncs = Syncs::new(asked);
     let gate = Limiting {

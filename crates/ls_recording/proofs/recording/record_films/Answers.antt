@@ -13,7 +13,7 @@ returns-in-Ok-open_films g c = λ done.
       devices = devices;
       files = recorded.0;
       named = c.in-Ok.ensures;
-      opened = subst (λ (names : List Names). AllZip (AreDevicesOf g.O.Opens.holds g.R.File.Read.remaining c.args.program.opener c.args.asked.tuning) names devices) c.deref.ensures.value
+      opened = subst (λ (names : List Names). AllZip (AreDevicesOf g.O.Opens.holds g.R.File.Read.remaining g.O.Makes.kept c.args.program.opener c.args.asked.tuning) names devices) c.deref.ensures.value
           c.in-Ok-open_films.ensures;
       recorded = recorded.1;
     }
