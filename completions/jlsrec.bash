@@ -18,9 +18,10 @@ _jlsrec() {
         ;;
     play) options+=' --into --frames --salvage --index --workers' ;;
     verify) options+=' --workers --strict' ;;
-    index) options+=' --beside --no-sums' ;;
+    list) options+=' --json' ;;
+    index) options+=' --beside --no-sums --json' ;;
     code) options+=' --index' ;;
-    check) options+=' --index --beside --workers --strict' ;;
+    check) options+=' --index --beside --workers --strict --json' ;;
     replay) options+=' --sources --capacity' ;;
     esac
     case $before in

@@ -40,7 +40,7 @@ use std::alloc::{AllocError, Global};
 use texts::{
     BAD_PRESET, BEGINNING, BESIDE_WANTED, CHECKERS_WANTED, COMMAND_WANTED, FRAMES_OR_SALVAGE,
     FRAMES_WANTED, INDEX_OF_ONE, INDEX_OR_BESIDE, INTO_OR_INDEX, INTO_OR_SALVAGE, INTO_WANTED,
-    PAIRS_WANTED, PLAYERS_WANTED, SALVAGE_WANTED, TOO_MANY_FILMS,
+    JSON_OR_BESIDE, PAIRS_WANTED, PLAYERS_WANTED, SALVAGE_WANTED, TOO_MANY_FILMS,
 };
 
 /// A request, one variant for each command; but `play` has four, and `index` and `check` two each.
@@ -49,6 +49,8 @@ pub enum Request<'a> {
     /// List the frames of a film.
     List {
         file: &'a str,
+        /// Whether an object of JSON is written for each line.
+        json: bool,
     },
     /// Code the frames of a film, and write their index if a file is named for it.
     Code {
@@ -87,6 +89,8 @@ pub enum Request<'a> {
     Index {
         file: &'a str,
         sums: bool,
+        /// Whether an object of JSON is written for each line.
+        json: bool,
     },
     /// Write an index of each recording to a file beside it, with sums or without.
     IndexBeside {
@@ -101,6 +105,8 @@ pub enum Request<'a> {
         workers: u8,
         /// Whether its codestreams must be strict, too.
         strict: bool,
+        /// Whether an object of JSON is written for each line.
+        json: bool,
     },
     /// Look for damage in each of several recordings; or in one, by the index beside it.
     CheckEach {
@@ -111,6 +117,8 @@ pub enum Request<'a> {
         workers: u8,
         /// Whether their codestreams must be strict, too.
         strict: bool,
+        /// Whether an object of JSON is written for each line.
+        json: bool,
     },
     /// Compare recordings with their films.
     Verify {
@@ -316,6 +324,7 @@ fn list_request<'a>(words: &ArgMatches<'a>) -> Option<Request<'a>>
 {
     Some(Request::List {
         file: words.get_str("FILE")?,
+        json: words.get_flag("json"),
     })
 }
 
@@ -418,13 +427,27 @@ fn index_request<'a>(alloc: Global, words: &ArgMatches<'a>) -> Result<Option<Req
     ensures { IfOk result (λ request. IfSome request (Asks words.now (codes "index"))) }
 {
     let files = files_of(alloc, words)?;
+    match read_index(words, files) {
+        Ok(request) => Ok(Some(request)),
+        Err(message) => Err(misuse_of(alloc, "index", message)),
+    }
+}
+
+/// The same of the recordings that are named, or the message that says what is wrong.
+fn read_index<'a>(words: &ArgMatches<'a>, files: Vec<&'a str>) -> Result<Request<'a>, &'static str>
+    ensures { texts_of files.entry.items ≡ files_in words.now → IfOk result (Asks words.now (codes "index")) }
+{
     let sums = !words.get_flag("no-sums");
+    let json = words.get_flag("json");
     if words.get_flag("beside") {
-        return Ok(Some(Request::IndexBeside { files, sums }));
+        if json {
+            return Err(JSON_OR_BESIDE);
+        }
+        return Ok(Request::IndexBeside { files, sums });
     }
     match only(&files) {
-        Some(file) => Ok(Some(Request::Index { file, sums })),
-        None => Err(misuse_of(alloc, "index", BESIDE_WANTED)),
+        Some(file) => Ok(Request::Index { file, sums, json }),
+        None => Err(BESIDE_WANTED),
     }
 }
 
@@ -453,12 +476,14 @@ fn read_check<'a>(words: &ArgMatches<'a>, files: Vec<&'a str>) -> Result<Request
         return Err(CHECKERS_WANTED);
     }
     let strict = words.get_flag("strict");
+    let json = words.get_flag("json");
     match only(&files) {
         Some(file) if !beside => Ok(Request::Check {
             file,
             index,
             workers,
             strict,
+            json,
         }),
         _ if index.is_some() => Err(INDEX_OF_ONE),
         _ => Ok(Request::CheckEach {
@@ -466,6 +491,7 @@ fn read_check<'a>(words: &ArgMatches<'a>, files: Vec<&'a str>) -> Result<Request
             beside,
             workers,
             strict,
+            json,
         }),
     }
 }

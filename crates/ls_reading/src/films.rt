@@ -20,14 +20,29 @@ use crate::indexing::{make_index, say_twice};
 use core::mem::replace_with;
 use ls_archive::{CodedFilm, IndexFault, code_film_with_index};
 use ls_console::{
-    Console, DONE, EndedIndex, FAILED, Host, Lines, MadeFile, Program, Reader, USAGE, finish_lines,
-    line_buffer, no_memory, open_film, say_index_end,
+    Column, Console, DONE, EndedIndex, FAILED, Host, Lines, MadeFile, Objects, Program, Reader,
+    USAGE, finish, finish_lines, line_buffer, no_memory, open_film, say_index_end,
 };
 use ls_files::{Keeper, Makes, Opens, Target};
 use ls_film::{FilmFault, code_film, list_film};
 use ls_frame::{Counted, Failed, Feed, Outlet};
 use std::alloc::Global;
 use std::io::Write;
+
+/// The columns of a film's lines.
+const COLUMNS: [Column; 11] = [
+    Column::Number("frame"),
+    Column::Word("kind"),
+    Column::Number("width"),
+    Column::Number("height"),
+    Column::Number("maxval"),
+    Column::Number("P"),
+    Column::Number("T1"),
+    Column::Number("T2"),
+    Column::Number("T3"),
+    Column::Number("RESET"),
+    Column::Number("LIMIT"),
+];
 
 /// Lists a film, through a buffer.
 pub fn list<R, O, W, E>(program: Program<'_, R, O, W, E>, file: &str) -> u8
@@ -86,6 +101,38 @@ where
     };
     let status = list_through(lined, file);
     finish_lines(status, lines, console)
+}
+
+/// Lists a film likewise, with an object of JSON for each line. What it writes is shown by tests; with the status `DONE`
+/// the film was read to its end.
+pub fn list_json<R, O, W, E>(program: Program<'_, R, O, W, E>, file: &str) -> u8
+where
+    R: AllocGlobal,
+    O: Opens + Copy + Drop,
+    W: Write,
+    E: Outlet,
+    ensures status { DoneOrFailed result }
+    ensures film { result ≡ DONE → WritesTextOf O.holds program.entry.opener file.now None None IsImageOf film_lines }
+{
+    let Program {
+        rt,
+        opener,
+        output,
+        console,
+    } = program;
+    let Ok(buffer) = line_buffer(rt.alloc()) else {
+        return no_memory(console);
+    };
+    let lines = Lines::new(&mut *output, buffer);
+    let mut objects = Counted::new(Objects::new(lines, &COLUMNS));
+    let listed = Program {
+        rt,
+        opener,
+        output: &mut objects,
+        console: &mut *console,
+    };
+    let status = list_through(listed, file);
+    finish(status, &mut objects, console)
 }
 
 /// Lists a film, over any output, which isn't flushed.

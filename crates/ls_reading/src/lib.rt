@@ -2,7 +2,7 @@
 //! and `replay`.
 //!
 //! What it hands on: a function for each command, or more: `show`, `show_whole` and, for several files, `show_into` are
-//! `play`; `index_beside`, `check_each` and `verify_pairs` are for several files, too. Each opens its files, runs an
+//! `play`; `list_json` and `index_json` write objects of JSON; `index_beside`, `check_each` and `verify_pairs` are for several files, too. Each opens its files, runs an
 //! engine of the crates below over them, says on the console what stopped it, and returns the status that the program
 //! exits with.
 //!
@@ -51,10 +51,10 @@ mod recorded;
 mod replaying;
 mod strict;
 
-pub use archive::{check_recording, index, verify_files};
+pub use archive::{check_recording, index, index_json, verify_files};
 pub use beside::index_beside;
 pub use each::{check_each, verify_pairs};
-pub use films::{code, code_with_index, list};
+pub use films::{code, code_with_index, list, list_json};
 pub use into::show_into;
 pub use listed::show_listed;
 pub use playing::{show, show_whole};
