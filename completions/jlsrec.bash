@@ -17,10 +17,10 @@ _jlsrec() {
         options+=' --count --for --keep-open --sync'
         ;;
     play) options+=' --into --frames --salvage --index --workers' ;;
-    verify) options+=' --workers --strict' ;;
+    verify) options+=' --frames --workers --strict' ;;
     index) options+=' --beside --no-sums' ;;
     code) options+=' --index' ;;
-    check) options+=' --index --beside --workers --strict' ;;
+    check) options+=' --index --beside --frames --workers --strict' ;;
     replay) options+=' --sources --capacity' ;;
     esac
     case $before in

@@ -8,8 +8,8 @@ use ls_files::{Locks, Makes};
 use ls_film::Part;
 use ls_frame::{Counted, Outlet, keep_blocks};
 use ls_reading::{
-    check_each, check_recording, code, code_with_index, index, index_beside, list, replay_file,
-    show, show_into, show_listed, show_whole, verify_pairs,
+    check_each, check_part, check_recording, code, code_with_index, index, index_beside, list,
+    replay_file, show, show_into, show_listed, show_whole, verify_files_part, verify_pairs,
 };
 use ls_recording::record_films;
 use std::alloc::{AllocError, Global};
@@ -99,6 +99,12 @@ where
                     workers,
                     strict,
                 } => check_recording(program, file, index, workers, strict),
+                Request::CheckPart {
+                    file,
+                    index,
+                    frames,
+                    workers,
+                } => check_part(program, file, index, part_of(frames), workers),
                 Request::CheckEach {
                     files,
                     beside,
@@ -110,6 +116,9 @@ where
                     workers,
                     strict,
                 } => verify_pairs(program, &pairs, workers, strict),
+                Request::VerifyPart { film, file, frames } => {
+                    verify_files_part(program, film, file, part_of(frames))
+                }
                 Request::Record(asked) => record_films(program, asked),
                 Request::Replay {
                     sources,

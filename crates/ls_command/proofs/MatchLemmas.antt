@@ -65,6 +65,8 @@ recording_asked words tuning files preset text reads named few (Some (request.Sa
 recording_asked words tuning files preset text reads named few (Some (request.Index file sums)) has = absurd has
 recording_asked words tuning files preset text reads named few (Some (request.IndexBeside recordings sums)) has = absurd has
 recording_asked words tuning files preset text reads named few (Some (request.Check file index workers strict)) has = absurd has
+recording_asked words tuning files preset text reads named few (Some (request.CheckPart file index frames workers)) has = absurd has
 recording_asked words tuning files preset text reads named few (Some (request.CheckEach recordings beside workers strict)) has = absurd has
 recording_asked words tuning files preset text reads named few (Some (request.Verify pairs workers strict)) has = absurd has
+recording_asked words tuning files preset text reads named few (Some (request.VerifyPart film file frames)) has = absurd has
 recording_asked words tuning files preset text reads named few (Some (request.Replay sources capacity file)) has = absurd has

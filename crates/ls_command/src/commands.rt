@@ -2,7 +2,8 @@
 use crate::limits::{CAPACITY, COUNT, QUEUE, SECONDS, SOURCES, SYNC, WINDOW, WORKERS};
 use crate::texts::{
     CAPACITY_HELP, CHECK_BESIDE_HELP, CHECK_HELP, CHECKERS_HELP, CODE_HELP, COUNT_HELP, FILM_HELP,
-    FILMS_HELP, FILMS_INTO_HELP, FRAMES_HELP, INDEX_BESIDE_HELP, INDEX_FILE_HELP, INDEX_HELP,
+    FILMS_HELP, FILMS_INTO_HELP, FRAMES_HELP, FRAMES_OF_CHECK_HELP, FRAMES_OF_VERIFY_HELP,
+    INDEX_BESIDE_HELP, INDEX_FILE_HELP, INDEX_HELP,
     INDEX_OF_CODE_HELP, INDEX_OF_RECORDING_HELP, INDEX_OF_SALVAGE_HELP, INTO_HELP, KEEP_OPEN_HELP,
     LIST_HELP, NO_SUMS_HELP, PLAY_HELP, PLAYERS_HELP, PRESET_HELP, PROGRESS_HELP, QUEUE_HELP,
     REASONS_HELP, RECORD_HELP, RECORDING_OF_FILM_HELP, RECORDINGS_HELP, REPLACE_HELP, REPLAY_HELP,
@@ -119,6 +120,7 @@ const COMMANDS: [Entry; 8] = [
             Argument::Files("FILE", RECORDINGS_HELP),
             Argument::Text("index", "INDEX", INDEX_FILE_HELP),
             Argument::Flag("beside", CHECK_BESIDE_HELP),
+            Argument::Text("frames", "A..B", FRAMES_OF_CHECK_HELP),
             Argument::Number("workers", WORKERS, "1", CHECKERS_HELP),
             Argument::Flag("strict", STRICT_HELP),
         ],
@@ -129,6 +131,7 @@ const COMMANDS: [Entry; 8] = [
         help: VERIFY_HELP,
         arguments: &[
             REASONS,
+            Argument::Text("frames", "A..B", FRAMES_OF_VERIFY_HELP),
             Argument::Number("workers", WORKERS, "1", VERIFIERS_HELP),
             Argument::Flag("strict", STRICT_HELP),
             Argument::File("FILM", FILM_HELP),

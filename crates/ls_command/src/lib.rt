@@ -25,8 +25,8 @@ mod limits;
 mod preset;
 mod texts;
 
-ghost use Rattle.std.specs.Prelude.{◌≡◌, ◌^◌, ◌∷◌, [], true, None, IfOk, IfSome, codes, map, string_bytes};
-ghost use Rattle.ls_command.specs.View.Matched.{Asks, AsksFrames, AsksToRecord, AsksWorkers, AreMatched, ArePairsOf, MakesRequest, ReadsNumber, WordsMakeRequest, files_in, texts_in_turn, texts_of};
+ghost use Rattle.std.specs.Prelude.{◌≡◌, ◌^◌, ◌∷◌, [], true, None, Some, IfOk, IfSome, codes, map, string_bytes};
+ghost use Rattle.ls_command.specs.View.Matched.{Asks, AsksFrames, AsksToRecord, AsksWorkers, AreMatched, ArePairsOf, HasText, MakesRequest, ReadsNumber, WordsMakeRequest, files_in, texts_in_turn, texts_of};
 
 use clap::error::ErrorKind;
 use clap::{ArgMatches, Command, Error};
@@ -38,12 +38,13 @@ use ls_frame::Tuning;
 use preset::tuning_of;
 use std::alloc::{AllocError, Global};
 use texts::{
-    BAD_PRESET, BEGINNING, BESIDE_WANTED, CHECKERS_WANTED, COMMAND_WANTED, FRAMES_OR_SALVAGE,
-    FRAMES_WANTED, INDEX_OF_ONE, INDEX_OR_BESIDE, INTO_OR_INDEX, INTO_OR_SALVAGE, INTO_WANTED,
-    PAIRS_WANTED, PLAYERS_WANTED, SALVAGE_WANTED, TOO_MANY_FILMS,
+    BAD_PRESET, BEGINNING, BESIDE_WANTED, CHECKERS_WANTED, COMMAND_WANTED, FRAMES_OF_ONE,
+    FRAMES_OR_SALVAGE, FRAMES_OR_STRICT, FRAMES_WANTED, INDEX_OF_ONE, INDEX_OR_BESIDE,
+    INDEX_WANTED, INTO_OR_INDEX, INTO_OR_SALVAGE, INTO_WANTED, PAIRS_WANTED, PLAYERS_WANTED,
+    SALVAGE_WANTED, TOO_MANY_FILMS, VERIFIERS_WANTED,
 };
 
-/// A request, one variant for each command; but `play` has four, and `index` and `check` two each.
+/// A request, one variant for each command; but `play` has four, `check` three, and `index` and `verify` two each.
 #[derive(Drop)]
 pub enum Request<'a> {
     /// List the frames of a film.
@@ -102,6 +103,14 @@ pub enum Request<'a> {
         /// Whether its codestreams must be strict, too.
         strict: bool,
     },
+    /// Look for damage in some codestreams of a recording, which are found by its index.
+    CheckPart {
+        file: &'a str,
+        index: &'a str,
+        frames: Frames,
+        /// The number of workers that decode.
+        workers: u8,
+    },
     /// Look for damage in each of several recordings; or in one, by the index beside it.
     CheckEach {
         files: Vec<&'a str>,
@@ -120,6 +129,12 @@ pub enum Request<'a> {
         workers: u8,
         /// Whether the codestreams of the recordings must be strict, too.
         strict: bool,
+    },
+    /// Compare some frames of a recording with those of its film.
+    VerifyPart {
+        film: &'a str,
+        file: &'a str,
+        frames: Frames,
     },
     /// Record films, side by side.
     Record(RecordRequest<'a>),
@@ -453,6 +468,23 @@ fn read_check<'a>(words: &ArgMatches<'a>, files: Vec<&'a str>) -> Result<Request
         return Err(CHECKERS_WANTED);
     }
     let strict = words.get_flag("strict");
+    if let Some(frames) = frames_of(words, false)? {
+        let Some(index) = index else {
+            return Err(INDEX_WANTED);
+        };
+        if strict {
+            return Err(FRAMES_OR_STRICT);
+        }
+        return match only(&files) {
+            Some(file) => Ok(Request::CheckPart {
+                file,
+                index,
+                frames,
+                workers,
+            }),
+            None => Err(INDEX_OF_ONE),
+        };
+    }
     match only(&files) {
         Some(file) if !beside => Ok(Request::Check {
             file,
@@ -485,9 +517,39 @@ fn verify_request<'a>(alloc: Global, words: &ArgMatches<'a>) -> Result<Option<Re
         return Ok(None);
     };
     let files = files_of(alloc, words)?;
-    match pairs_of(alloc, film, &files)? {
-        Some(pairs) => Ok(verify_pairs_request(words, pairs)),
-        None => Err(misuse_of(alloc, "verify", PAIRS_WANTED)),
+    match frames_of(words, false) {
+        Ok(Some(frames)) => match read_verify_part(words, film, &files, frames) {
+            Ok(request) => Ok(Some(request)),
+            Err(message) => Err(misuse_of(alloc, "verify", message)),
+        },
+        Ok(None) => match pairs_of(alloc, film, &files)? {
+            Some(pairs) => Ok(verify_pairs_request(words, pairs)),
+            None => Err(misuse_of(alloc, "verify", PAIRS_WANTED)),
+        },
+        Err(message) => Err(misuse_of(alloc, "verify", message)),
+    }
+}
+
+/// The request of `verify` for these frames of a film and the recordings that are named, or the message that says what is
+/// wrong.
+fn read_verify_part<'a>(
+    words: &ArgMatches<'a>,
+    film: &'a str,
+    files: &[&'a str],
+    frames: Frames,
+) -> Result<Request<'a>, &'static str>
+    ensures { HasText words.now (codes "FILM") (Some film.now) → texts_of files.now ≡ files_in words.now → AsksFrames words.now (Some frames)
+        → IfOk result (Asks words.now (codes "verify")) }
+{
+    if workers_of(words) > 1 {
+        return Err(VERIFIERS_WANTED);
+    }
+    if words.get_flag("strict") {
+        return Err(FRAMES_OR_STRICT);
+    }
+    match only(files) {
+        Some(file) => Ok(Request::VerifyPart { film, file, frames }),
+        None => Err(FRAMES_OF_ONE),
     }
 }
 
@@ -496,7 +558,7 @@ fn verify_pairs_request<'a>(
     words: &ArgMatches<'a>,
     pairs: Vec<(&'a str, &'a str)>,
 ) -> Option<Request<'a>>
-    ensures { ArePairsOf words.now pairs.entry.items → IfSome result (Asks words.now (codes "verify")) }
+    ensures { ArePairsOf words.now pairs.entry.items → AsksFrames words.now None → IfSome result (Asks words.now (codes "verify")) }
 {
     Some(Request::Verify {
         pairs,

@@ -173,6 +173,15 @@ pub const CHECK_BESIDE_HELP: &str = "\
 Check each FILE by the index beside it, FILE.index, as `record --index` and `index --beside` write it; a FILE without
 one is at fault";
 
+pub const FRAMES_OF_CHECK_HELP: &str = "\
+With --index: the codestreams to check, as for `play`: A..B, A, A.. or ..B. Only their lines and bytes are read, whatever
+comes after them in FILE, so that FILE may still be written. A.. ends with INDEX, or before a last line that isn't written
+whole; if INDEX has just A lines, nothing is checked, and the status is 0";
+
+pub const INDEX_WANTED: &str = "--frames goes only with --index";
+
+pub const FRAMES_OR_STRICT: &str = "--frames and --strict don't go together";
+
 pub const INDEX_OR_BESIDE: &str = "--index and --beside don't go together";
 
 pub const INDEX_OF_ONE: &str = "--index goes only with one FILE; --beside goes with several";
@@ -200,6 +209,14 @@ and a line on standard error reports the first frame that differs, is missing or
 Further pairs FILM FILE may follow. A line on standard output then reports each pair that is the same
   FILE: the same
 and the status is 0 only if all are. A pair that isn't keeps none of the others from being compared.";
+
+pub const FRAMES_OF_VERIFY_HELP: &str = "\
+The frames to compare, as for `play`: A..B, A, A.. or ..B. Those before A are passed over, the recording's by their
+markers, and none after B is read. A.. compares up to the end of both, where both may have just A frames";
+
+pub const FRAMES_OF_ONE: &str = "--frames goes only with one FILM and its FILE";
+
+pub const VERIFIERS_WANTED: &str = "--workers and --frames don't go together";
 
 pub const PAIRS_WANTED: &str = "each FILM goes with a FILE: the last FILM has none";
 

@@ -302,7 +302,7 @@ where
 /// Looks elsewhere in the recording for the codestreams that were found to be damaged: one place or none for each.
 /// Empty if none has a sum, or the recording can't be read once more. `end` is the offset at which the last one
 /// should end. On failure says why and returns the status.
-fn find_moved<R, O, E>(
+pub fn find_moved<R, O, E>(
     rt: &R,
     opener: O,
     file: &str,
@@ -431,7 +431,7 @@ fn check_lent<Rt: AllocGlobal + Threads + Sync, I: Feed, R: Feed, F: Findings>(
 }
 
 /// Whether a check stopped because of its index.
-fn is_of_index(fault: CheckFault) -> bool {
+pub fn is_of_index(fault: CheckFault) -> bool {
     matches!(
         fault,
         CheckFault::Line(_) | CheckFault::IndexIo | CheckFault::TooMany
@@ -588,7 +588,7 @@ fn verify_lent<Rt: Threads + Sync, F: Feed, R: Feed>(
 }
 
 /// Says how a recording differs from its film, if it does, and returns the status.
-fn say_verdict<E: Outlet>(recording: &str, verdict: Verdict, console: &mut Console<E>) -> u8
+pub fn say_verdict<E: Outlet>(recording: &str, verdict: Verdict, console: &mut Console<E>) -> u8
     ensures { result ≡ verdict_status verdict }
 {
     let recording = Shown(recording);
@@ -641,7 +641,7 @@ fn kind_text(kind: Kind) -> &'static str {
 
 /// Writes the lines of a check.
 #[derive(Drop)]
-struct Report<'l, L> {
+pub struct Report<'l, L> {
     alloc: Global,
     /// The recording's name.
     file: &'l str,
@@ -653,7 +653,7 @@ struct Report<'l, L> {
 }
 
 impl<'l, L: Outlet> Report<'l, L> {
-    fn new(alloc: Global, file: &'l str, lines: &'l mut L, is_named: bool) -> Report<'l, L> {
+    pub fn new(alloc: Global, file: &'l str, lines: &'l mut L, is_named: bool) -> Report<'l, L> {
         Report {
             alloc,
             file,
@@ -682,7 +682,7 @@ impl<'l, L: Outlet> Report<'l, L> {
 
     /// Writes a line for each finding, with the place at which its codestream was found, if there is one, and then
     /// the totals. Returns the status.
-    fn end_by<E: Outlet>(
+    pub fn end_by<E: Outlet>(
         &mut self,
         checked: Checked,
         findings: &[Finding],
@@ -699,7 +699,11 @@ impl<'l, L: Outlet> Report<'l, L> {
     }
 
     /// Writes a line for each finding; the status if memory runs out.
-    fn tell_all<E: Outlet>(&mut self, findings: &[Finding], console: &mut Console<E>) -> Option<u8>
+    pub fn tell_all<E: Outlet>(
+        &mut self,
+        findings: &[Finding],
+        console: &mut Console<E>,
+    ) -> Option<u8>
         ensures { IfSome result (λ status. status ≡ FAILED) }
     {
         match self.write_all(findings, &[]) {

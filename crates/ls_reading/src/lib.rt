@@ -28,7 +28,7 @@
 //! In reading order: `cause` (the causes of faults), `asked` (what a command that writes lines is asked for), `films`
 //! (`list` and `code`), `indexing` (the file of an index that is written together with its recording), `playing`
 //! (`play`), `listed` (a part that is found by an index), `recorded` (the recorded numbers of gaps, and lost frames),
-//! `archive` (`index`, `check` and `verify`), `strict` (whether codestreams are strict), `each` (`check` and `verify` of
+//! `archive` (`index`, `check` and `verify`), `part` (`check` and `verify` of a part), `strict` (whether codestreams are strict), `each` (`check` and `verify` of
 //! several files), `draft` (a file that takes its name once it is whole), `beside` (`index` of several files), `into`
 //! (`play` of several files), `replaying` (`replay`). The contracts say which status each returns, and what each has read
 //! and written if it is 0 (`specs/View/Commands.antt`, `specs/View/Each.antt`, `specs/View/Replays.antt`); what each
@@ -46,6 +46,7 @@ mod films;
 mod indexing;
 mod into;
 mod listed;
+mod part;
 mod playing;
 mod recorded;
 mod replaying;
@@ -57,5 +58,6 @@ pub use each::{check_each, verify_pairs};
 pub use films::{code, code_with_index, list};
 pub use into::show_into;
 pub use listed::show_listed;
+pub use part::{check_part, verify_files_part};
 pub use playing::{show, show_whole};
 pub use replaying::replay_file;

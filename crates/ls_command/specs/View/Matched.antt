@@ -118,12 +118,19 @@ module _ (words : ArgMatches) where
       (name ≡ codes "index") × (texts_of files.items ≡ files_in) × IsGiven (codes "no-sums") (not sums) × IsGiven (codes "beside") true
   Asks name (request.Check file index workers strict) =
       (name ≡ codes "check") × HasFile file.now × HasText (codes "index") (text_in index) × IsGiven (codes "beside") false × AsksWorkers workers
-      × IsGiven (codes "strict") strict × IfNone index (workers ≤ 1)
+      × IsGiven (codes "strict") strict × IfNone index (workers ≤ 1) × HasText (codes "frames") None
+  Asks name (request.CheckPart file index frames workers) =
+      (name ≡ codes "check") × HasFile file.now × HasText (codes "index") (Some index.now) × AsksFrames (Some frames) × IsGiven (codes "beside") false
+      × AsksWorkers workers × IsGiven (codes "strict") false
   Asks name (request.CheckEach files beside workers strict) =
       (name ≡ codes "check") × (texts_of files.items ≡ files_in) × HasText (codes "index") None × IsGiven (codes "beside") beside × AsksWorkers workers
-      × IsGiven (codes "strict") strict × (beside ≡ false → workers ≤ 1)
+      × IsGiven (codes "strict") strict × (beside ≡ false → workers ≤ 1) × HasText (codes "frames") None
   Asks name (request.Verify pairs workers strict) =
       (name ≡ codes "verify") × ArePairsOf pairs.items × ReadsNumber (2 ^ 8) (codes "workers") (Some workers) × IsGiven (codes "strict") strict
+      × HasText (codes "frames") None
+  Asks name (request.VerifyPart film file frames) =
+      (name ≡ codes "verify") × HasText (codes "FILM") (Some film.now) × HasFile file.now × AsksFrames (Some frames)
+      × ((workers : ℕ) × AsksWorkers workers × (workers ≤ 1)) × IsGiven (codes "strict") false
   Asks name (request.Record asked) = (name ≡ codes "record") × AsksRecording asked
   Asks name (request.Replay sources capacity file) =
       (name ≡ codes "replay") × HasText (codes "FILE") (Some file.now) × ReadsNumber (2 ^ 8) (codes "sources") (Some sources)
