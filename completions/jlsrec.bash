@@ -17,10 +17,11 @@ _jlsrec() {
         options+=' --count --for --keep-open --sync'
         ;;
     play) options+=' --into --frames --salvage --index --workers' ;;
-    verify) options+=' --workers --strict' ;;
-    index) options+=' --beside --no-sums' ;;
+    verify) options+=' --frames --workers --strict' ;;
+    list) options+=' --json' ;;
+    index) options+=' --beside --no-sums --json' ;;
     code) options+=' --index' ;;
-    check) options+=' --index --beside --workers --strict' ;;
+    check) options+=' --index --beside --frames --workers --strict --json' ;;
     replay) options+=' --sources --capacity' ;;
     esac
     case $before in

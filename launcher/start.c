@@ -4,8 +4,8 @@
    of a second. Then each thread is interrupted every 10 ms, so that a read that waits fails by EINTR. After a signal and a
    tenth of a second signals do what they usually do: a second one ends the program. One that comes sooner is taken for the
    same stop, since `timeout`, shells and service managers send two at once. A signal that was ignored stays so. If any of
-   this can't be had, no signal is taken. COLUMNS is set to the terminal's width at standard error, unless it is set. There
-   are no headers: what is used of the C library and of Linux is declared here. */
+   this can't be had, no signal is taken. COLUMNS and LINES are set to the terminal's size at standard error, unless they
+   are set. There are no headers: what is used of the C library and of Linux is declared here. */
 enum { IGNORED = 1, MFD_CLOEXEC = 1, SIG_UNBLOCK = 1, CLOCK_MONOTONIC = 1, SEEK_END = 2, READ_OK = 4, AT_FDCWD = -100 };
 enum { F_DUPFD_CLOEXEC = 1030, TIOCGWINSZ = 0x5413, FOLDER_TO_READ = 02200000, SEEK_SET = 0, TICKS = 10 };
 enum { SIGHUP = 1, SIGINT = 2, SIGTERM = 15, SIGURG = 23, TICK = 60 };
@@ -75,13 +75,13 @@ __attribute__((constructor)) static void start(int count, char **words)
 	unsetenv("JLSREC_STOP");
 	if (count < 2 || strcmp(words[1], "record"))
 		return;
-	if (syscall(SYS_ioctl, 2L, TIOCGWINSZ, window) == 0 && window[1] > 0 && snprintf(text, sizeof text, "%d", window[1]) > 0)
-		setenv("COLUMNS", text, 0);
+	for (long at = syscall(SYS_ioctl, 2L, TIOCGWINSZ, window) ? 0 : 2; at-- > 0;)
+		if (window[at] > 0 && snprintf(text, sizeof text, "%d", window[at]) > 0)
+			setenv(at ? "COLUMNS" : "LINES", text, 0);
 	/* They are open from the start, when there are descriptors left, above the standard streams: these may be closed. */
 	file = syscall(SYS_fcntl, made = syscall(SYS_memfd_create, "stop", MFD_CLOEXEC), F_DUPFD_CLOEXEC, 3L);
 	syscall(SYS_close, made);
-	made = syscall(SYS_openat, AT_FDCWD, "/proc/self/task", FOLDER_TO_READ, 0L);
-	tasks = syscall(SYS_fcntl, made, F_DUPFD_CLOEXEC, 3L);
+	tasks = syscall(SYS_fcntl, made = syscall(SYS_openat, AT_FDCWD, "/proc/self/task", FOLDER_TO_READ, 0L), F_DUPFD_CLOEXEC, 3L);
 	syscall(SYS_close, made);
 	snprintf(text, sizeof text, "/proc/self/fd/%d", file);
 	if (syscall(SYS_access, text, READ_OK) || syscall(SYS_timer_create, CLOCK_MONOTONIC, &event, &timer) ||

@@ -30,10 +30,11 @@ static void *read_on(void *unused)
 
 int main(int count, char **words)
 {
-	const char *path = getenv("JLSREC_STOP"), *columns = getenv("COLUMNS");
+	const char *path = getenv("JLSREC_STOP"), *columns = getenv("COLUMNS"), *lines = getenv("LINES");
 	pthread_t other;
 
-	printf("%s, %s columns\n", path ? "a file" : "no file", columns ? columns : "no");
+	printf("%s, %s columns", path ? "a file" : "no file", columns ? columns : "no");
+	printf(lines ? ", %s lines\n" : "\n", lines);
 	fflush(stdout);
 	if (count < 2 || strcmp(words[1], "record") != 0 || !path)
 		return 0;

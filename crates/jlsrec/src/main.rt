@@ -25,6 +25,9 @@ const LEAST_WIDTH: usize = 20;
 
 const MOST_WIDTH: usize = 1000;
 
+/// The most lines that a terminal is taken to have.
+const MOST_HEIGHT: usize = 1000;
+
 /// The environment's variable with the path of the file that has a byte once `record` is to stop. What is linked with
 /// the program sets it, before `main`; without it no signal stops a recording but by ending the program.
 const STOP: &str = "JLSREC_STOP";
@@ -36,6 +39,7 @@ fn main(rt: HostRuntime) -> ExitCode {
     let is_terminal = rt.stderr().is_terminal();
     let errors = Counted::new(Patient::new(rt.stderr()));
     let mut console = Console::new(rt.alloc(), errors, is_terminal, columns(&rt));
+    console.set_height(height(&rt));
     let asked = env::var(&rt, STOP).ok();
     let stop = Stop::open(&rt, asked.as_deref());
     let opener = Opener::new(&rt).stopped_by(&stop);
@@ -51,5 +55,16 @@ fn columns<R: Env + AllocGlobal>(rt: &R) -> usize {
             _ => COLUMNS,
         },
         Err(_) => COLUMNS,
+    }
+}
+
+/// The number of the terminal's lines, which is in the environment's LINES; 0 if it isn't there.
+fn height<R: Env + AllocGlobal>(rt: &R) -> usize {
+    match env::var(rt, "LINES") {
+        Ok(text) => match text.parse::<usize>() {
+            Ok(height) if height <= MOST_HEIGHT => height,
+            _ => 0,
+        },
+        Err(_) => 0,
     }
 }

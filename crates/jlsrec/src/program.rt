@@ -8,8 +8,9 @@ use ls_files::{Locks, Makes};
 use ls_film::Part;
 use ls_frame::{Counted, Outlet, keep_blocks};
 use ls_reading::{
-    check_each, check_recording, code, code_with_index, index, index_beside, list, replay_file,
-    show, show_into, show_listed, show_whole, verify_pairs,
+    check_each, check_part, check_recording, code, code_with_index, index, index_beside,
+    index_json, list, list_json, replay_file, show, show_into, show_listed, show_whole,
+    verify_files_part, verify_pairs,
 };
 use ls_recording::record_films;
 use std::alloc::{AllocError, Global};
@@ -69,7 +70,8 @@ where
         Ok((request, reasons)) => {
             program.console.tell_reasons(reasons);
             match request {
-                Request::List { file } => list(program, file),
+                Request::List { file, json: false } => list(program, file),
+                Request::List { file, json: true } => list_json(program, file),
                 Request::Code { file, index } => match index {
                     Some(index) => code_with_index(program, file, index),
                     None => code(program, file),
@@ -91,25 +93,46 @@ where
                     workers,
                 } => show_into(program, &files, into, frames.map(part_of), workers),
                 Request::Salvage { file, index } => show_whole(program, file, index),
-                Request::Index { file, sums } => index(program, file, sums),
+                Request::Index {
+                    file,
+                    sums,
+                    json: false,
+                } => index(program, file, sums),
+                Request::Index {
+                    file,
+                    sums,
+                    json: true,
+                } => index_json(program, file, sums),
                 Request::IndexBeside { files, sums } => index_beside(program, &files, sums),
                 Request::Check {
                     file,
                     index,
                     workers,
                     strict,
-                } => check_recording(program, file, index, workers, strict),
+                    json,
+                } => check_recording(program, file, index, workers, strict, json),
+                Request::CheckPart {
+                    file,
+                    index,
+                    frames,
+                    workers,
+                    json,
+                } => check_part(program, file, index, part_of(frames), workers, json),
                 Request::CheckEach {
                     files,
                     beside,
                     workers,
                     strict,
-                } => check_each(program, &files, beside, workers, strict),
+                    json,
+                } => check_each(program, &files, beside, workers, strict, json),
                 Request::Verify {
                     pairs,
                     workers,
                     strict,
                 } => verify_pairs(program, &pairs, workers, strict),
+                Request::VerifyPart { film, file, frames } => {
+                    verify_files_part(program, film, file, part_of(frames))
+                }
                 Request::Record(asked) => record_films(program, asked),
                 Request::Replay {
                     sources,

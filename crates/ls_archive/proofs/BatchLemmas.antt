@@ -19,10 +19,11 @@ use Rattle.ls_archive.specs.declared.checking.batches.Batch.{Batch}
 use Rattle.ls_archive.specs.declared.checking.batches.Listed.{Listed}
 use Rattle.ls_archive.specs.declared.checking.batches.SoFar.{SoFar}
 use Rattle.ls_archive.specs.View.Checking.{Line, IsLine, IsGood, IsDamage}
-use Rattle.ls_archive.specs.View.Checks.{GaveAtMost, IsFound, HasLooked, HasChecked, IsChecked, Stops, Fails, GoesOn}
+use Rattle.ls_archive.specs.View.CheckedLines.{IsMore, HasCheckedLines, StopsLines, FailsLines}
+use Rattle.ls_archive.specs.View.Checks.{GaveAtMost, IsFound, HasLooked, HasChecked, StopsAfter}
 use Rattle.ls_archive.specs.View.Batches.{Place, line_of, IsTaken, AreTaken, ComesAfter, IsBatch, IsLookedAt, IsLooked, AreLooked, HasCheckedTo, LeadsOn, LeadsSomewhere, HasReadBeyond, HasReadBatches, fails_index, fails_recording}
 use Rattle.ls_film.proofs.AheadLemmas.{lent-back}
-use Rattle.ls_archive.proofs.CheckLemmas.{checked-more, checked-end, stops-after, had-line, stops-next-line, stops-in-bytes, stops-at-end, fails-next-line, fails-in-bytes, fails-at-end}
+use Rattle.ls_archive.proofs.CheckLemmas.{checked-more, stops-after, had-line, stops-next-line, stops-in-bytes, fails-next-line, fails-in-bytes}
 
 -- ---- lines that are taken
 
@@ -100,12 +101,13 @@ looked-step at next jobs i job lt is are =
 module _ (told told' : Option (List Finding)) (so_far so_far' : SoFar) (jobs : List Listed) where
   -- what was found for the next job was reported
   pub leads-more : (told'' : Option (List Finding)) (done : SoFar) (i : ℕ) (job : Listed) → LeadsOn told told' so_far so_far' jobs (drop i jobs) → i < length jobs → job ≡ get_or jobs i job
-      → ((index recording : Option (List ℕ)) (found : Option (List Finding)) (at next : Place) → HasCheckedTo index recording found told' at so_far' → IsLooked at next job → HasCheckedTo index recording found told'' next done)
+      → ((first start : ℕ) (index recording : Option (List ℕ)) (found : Option (List Finding)) (at next : Place) → HasCheckedTo first start index recording found told' at so_far' → IsLooked at next job
+      → HasCheckedTo first start index recording found told'' next done)
       → LeadsOn told told'' so_far done jobs (drop (i + 1) jobs)
-  leads-more told'' done i job leads lt is one index recording found at next to are =
-      let here = leads index recording found at next to are in
+  leads-more told'' done i job leads lt is one first start index recording found at next to are =
+      let here = leads first start index recording found at next to are in
       let step = looked-step here.0 next jobs i job lt is here.2 in
-      (step.0, one index recording found here.0 step.0 here.1 step.1, step.2)
+      (step.0, one first start index recording found here.0 step.0 here.1 step.1, step.2)
 
   -- the next job is left
   pub leads-somewhere : (i : ℕ) (job : Listed) → LeadsOn told told' so_far so_far' jobs (drop i jobs) → i < length jobs → LeadsSomewhere told told' so_far jobs
@@ -120,15 +122,15 @@ module _ (told told' : Option (List Finding)) (so_far so_far' : SoFar) (jobs : L
   pub leads-all : (i : ℕ) → LeadsOn told told' so_far so_far' jobs (drop i jobs) → length jobs ≤ i → LeadsOn told told' so_far so_far' jobs []
   leads-all i leads all = subst (LeadsOn told told' so_far so_far' jobs) (at_drop_all (λ (js : List Listed). js) jobs i all) leads
 
-module _ (index recording : Option (List ℕ)) (found : Option (List Finding)) where
+module _ (first start : ℕ) (index recording : Option (List ℕ)) (found : Option (List Finding)) where
   -- what was found for one more job was reported
-  pub told-more : (told told' : Option (List Finding)) (at next : Place) (so_far done : SoFar) (job : Listed) (d : ℕ) → HasCheckedTo index recording found told at so_far
+  pub told-more : (told told' : Option (List Finding)) (at next : Place) (so_far done : SoFar) (job : Listed) (d : ℕ) → HasCheckedTo first start index recording found told at so_far
       → (is : IsLooked at next job) → so_far.number < most_frames → HasLooked job.number job.offset (line_of job.line) is.bytes told told' d
-      → done.number ≡ so_far.number + 1 → done.offset ≡ so_far.offset + job.line.size → done.damaged ≡ so_far.damaged + d → HasCheckedTo index recording found told' next done
+      → done.number ≡ so_far.number + 1 → done.offset ≡ so_far.offset + job.line.size → done.damaged ≡ so_far.damaged + d → HasCheckedTo first start index recording found told' next done
   told-more told told' at next so_far done job d to is room looked number offset damaged =
       let here = subst (λ n. HasLooked n job.offset (line_of job.line) is.bytes told told' d) is.number looked in
       let there = subst (λ o. HasLooked at.number o (line_of job.line) is.bytes told told' d) is.offset here in
-      let more = checked-more index at.index next.index recording at.recording next.recording found told told' at.number at.offset so_far.damaged d (line_of job.line) is.bytes
+      let more = checked-more first start index at.index next.index recording at.recording next.recording found told told' at.number at.offset so_far.damaged d (line_of job.line) is.bytes
       to.checked (omega (arith, room, to.number)) is.is is.gave is.taken there in
       record {
         number = number ∙ ap (λ k. k + 1) to.number ∙ sym is.next_number;
@@ -137,93 +139,102 @@ module _ (index recording : Option (List ℕ)) (found : Option (List Finding)) w
       }
 
   -- an allocation failed
-  pub stops-telling : (told : Option (List Finding)) (at next : Place) (so_far : SoFar) (job : Listed) → HasCheckedTo index recording found told at so_far → IsLooked at next job
-      → Stops index recording found told fault.NoMemory
+  pub stops-telling : (told : Option (List Finding)) (at next : Place) (so_far : SoFar) (job : Listed) → HasCheckedTo first start index recording found told at so_far → IsLooked at next job
+      → (m : ℕ) × StopsAfter first start index recording found told m IsMore
   stops-telling told at next so_far job to is = (
     at.number,
-    stops-after index at.index recording at.recording found told told at.number at.offset so_far.damaged (GoesOn recording) to.checked refl
-        (λ known. inl (had-line at.index next.index at.number at.offset (line_of job.line) is.is is.gave known)),
+    stops-after first start index at.index recording at.recording found told told at.number at.offset so_far.damaged IsMore to.checked refl
+        (had-line at.index next.index at.number at.offset (line_of job.line) is.is is.gave),
   )
 
   -- for a batch
-  module _ (told told' : Option (List Finding)) (so_far : SoFar) (index0 recording0 index' recording' : Option (List ℕ)) (batch : Batch) (jobs' : List Listed)
-      (checked : HasChecked index index0 recording recording0 found told so_far.number so_far.offset so_far.damaged)
-      (is : IsBatch (record { index = index0; recording = recording0; number = so_far.number; offset = so_far.offset }) index' recording' batch) (looked : AllZip IsLookedAt batch.jobs.items jobs') where
-    to-begun : HasCheckedTo index recording found told (record { index = index0; recording = recording0; number = so_far.number; offset = so_far.offset }) so_far
+  module _ (growing : Bool) (told told' : Option (List Finding)) (so_far : SoFar) (index0 recording0 index' recording' : Option (List ℕ)) (batch : Batch) (jobs' : List Listed)
+      (checked : HasChecked first start index index0 recording recording0 found told so_far.number so_far.offset so_far.damaged)
+      (is : IsBatch growing (record { index = index0; recording = recording0; number = so_far.number; offset = so_far.offset }) index' recording' batch) (looked : AllZip IsLookedAt batch.jobs.items jobs') where
+    to-begun : HasCheckedTo first start index recording found told (record { index = index0; recording = recording0; number = so_far.number; offset = so_far.offset }) so_far
     to-begun = record { number = refl; offset = refl; checked = checked }
 
     are : AreLooked (record { index = index0; recording = recording0; number = so_far.number; offset = so_far.offset }) is.mid jobs'
     are = all-looked (record { index = index0; recording = recording0; number = so_far.number; offset = so_far.offset }) is.mid batch.jobs.items jobs' is.taken looked
 
     -- everything was reported
-    pub told-batch : (done : SoFar) → LeadsOn told told' so_far done jobs' [] → (mid : Place) × HasCheckedTo index recording found told' mid done × ComesAfter mid index' recording' batch.after
+    pub told-batch : (done : SoFar) → LeadsOn told told' so_far done jobs' [] → (mid : Place) × HasCheckedTo first start index recording found told' mid done × ComesAfter growing mid index' recording' batch.after
     told-batch done leads =
-        let there = leads index recording found (record { index = index0; recording = recording0; number = so_far.number; offset = so_far.offset }) is.mid to-begun are in
-        (is.mid, subst (λ (p : Place). HasCheckedTo index recording found told' p done) there.2 there.1, is.after)
+        let there = leads first start index recording found (record { index = index0; recording = recording0; number = so_far.number; offset = so_far.offset }) is.mid to-begun are in
+        (is.mid, subst (λ (p : Place). HasCheckedTo first start index recording found told' p done) there.2 there.1, is.after)
 
     -- or an allocation failed before that
-    pub stops-batch : LeadsSomewhere told told' so_far jobs' → Stops index recording found told' fault.NoMemory
+    pub stops-batch : LeadsSomewhere told told' so_far jobs' → (m : ℕ) × StopsAfter first start index recording found told' m IsMore
     stops-batch leads =
-        let there = leads.3 index recording found (record { index = index0; recording = recording0; number = so_far.number; offset = so_far.offset }) is.mid to-begun are in
+        let there = leads.3 first start index recording found (record { index = index0; recording = recording0; number = so_far.number; offset = so_far.offset }) is.mid to-begun are in
         stops-telling told' there.0 there.2.0 leads.0 leads.1 there.1 there.2.1
 
   -- ---- what comes after a batch
 
-  module _ (told : Option (List Finding)) (done : SoFar) (at : Place) (index' recording' : Option (List ℕ)) (to : HasCheckedTo index recording found told at done)
-      (after : After) (comes : ComesAfter at index' recording' after) where
-    pub more-comes : after ≡ More → HasChecked index index' recording recording' found told done.number done.offset done.damaged
+  module _ (growing : Bool) (told : Option (List Finding)) (done : SoFar) (at : Place) (index' recording' : Option (List ℕ)) (to : HasCheckedTo first start index recording found told at done)
+      (after : After) (comes : ComesAfter growing at index' recording' after) where
+    -- the check at the numbers that the code has
+    here : HasChecked first start index at.index recording at.recording found told done.number done.offset done.damaged
+    here =
+        let number = subst (λ n. HasChecked first start index at.index recording at.recording found told n at.offset done.damaged) (sym to.number) to.checked in
+        subst (λ o. HasChecked first start index at.index recording at.recording found told done.number o done.damaged) (sym to.offset) number
+
+    pub more-comes : after ≡ More → HasChecked first start index index' recording recording' found told done.number done.offset done.damaged
     more-comes more =
-        let same : ComesAfter at index' recording' More = subst (ComesAfter at index' recording') more comes in
-        let number = subst (λ n. HasChecked index at.index recording at.recording found told n at.offset done.damaged) (sym to.number) to.checked in
-        let offset = subst (λ o. HasChecked index at.index recording at.recording found told done.number o done.damaged) (sym to.offset) number in
-        let lines = subst (λ i. HasChecked index i recording at.recording found told done.number done.offset done.damaged) same.0 offset in
-        subst (λ r. HasChecked index index' recording r found told done.number done.offset done.damaged) same.1 lines
+        let same : ComesAfter growing at index' recording' More = subst (ComesAfter growing at index' recording') more comes in
+        let lines = subst (λ i. HasChecked first start index i recording at.recording found told done.number done.offset done.damaged) same.0 here in
+        subst (λ r. HasChecked first start index index' recording r found told done.number done.offset done.damaged) same.1 lines
 
-    pub end-comes : (more : Bool) → after ≡ End more → IsChecked index recording found told (record { frames = done.number; damaged = done.damaged; bytes = done.offset; more = more })
-    end-comes more is =
-        let end : ComesAfter at index' recording' (End more) = subst (ComesAfter at index' recording') is comes in
-        rw (to.number, to.offset) (
-        checked-end index at.index index' recording at.recording found told at.number at.offset done.damaged more to.checked end.0 end.1
-        )
+    pub end-comes : after ≡ End → HasCheckedLines first start growing index index' recording recording' found told done.number done.offset done.damaged true
+    end-comes is =
+        let end : ComesAfter growing at index' recording' End = subst (ComesAfter growing at index' recording') is comes in
+        record {
+          mid = at.index;
+          checked = subst (λ r. HasChecked first start index at.index recording r found told done.number done.offset done.damaged) end.1 here;
+          end = λ ended. end.0;
+          unread = λ other. let clash : ⊥ = cc in absurd clash;
+        }
 
-    stops-either : (why : CheckFault) → ComesAfter at index' recording' (Fault why) → Stops index recording found told why
+    stops-either : (why : CheckFault) → ComesAfter growing at index' recording' (Fault why) → StopsLines first start index index' recording recording' found told growing why
     stops-either why (inl line) =
-        stops-next-line index at.index index' recording at.recording recording' found told at.number at.offset done.damaged to.checked why line
-    stops-either why (inr (inl read)) =
-        stops-in-bytes index at.index index' recording at.recording recording' found told at.number at.offset done.damaged to.checked read.0 read.1 read.2 why read.3
-    stops-either why (inr (inr end)) =
-        stops-at-end index at.index index' recording at.recording recording' found told at.number at.offset done.damaged to.checked end.0 why end.1
+        stops-next-line first start index at.index index' recording at.recording recording' found told at.number at.offset done.damaged to.checked growing why line.0 line.1
+    stops-either why (inr read) =
+        stops-in-bytes first start index at.index index' recording at.recording recording' found told at.number at.offset done.damaged to.checked read.0 read.1 read.2 growing why read.3
 
-    pub fault-comes : (why : CheckFault) → after ≡ Fault why → Stops index recording found told why
-    fault-comes why is = stops-either why (subst (ComesAfter at index' recording') is comes)
+    pub fault-comes : (why : CheckFault) → after ≡ Fault why → StopsLines first start index index' recording recording' found told growing why
+    fault-comes why is = stops-either why (subst (ComesAfter growing at index' recording') is comes)
 
-    fails-either : (why : CheckFault) → ComesAfter at index' recording' (Fault why) → Fails index index' recording recording' found told why
+    fails-either : (why : CheckFault) → ComesAfter growing at index' recording' (Fault why) → FailsLines first start index index' recording recording' found told why
     fails-either why (inl line) =
-        fails-next-line index at.index index' recording at.recording recording' found told at.number at.offset done.damaged to.checked why line
-    fails-either why (inr (inl read)) =
-        fails-in-bytes index at.index index' recording at.recording recording' found told at.number at.offset done.damaged to.checked read.0 read.1 read.2 why read.3
-    fails-either why (inr (inr end)) =
-        fails-at-end index at.index index' recording at.recording recording' found told at.number at.offset done.damaged to.checked end.0 why end.1
+        fails-next-line first start index at.index index' recording at.recording recording' found told at.number at.offset done.damaged to.checked why line.0
+    fails-either why (inr read) =
+        fails-in-bytes first start index at.index index' recording at.recording recording' found told at.number at.offset done.damaged to.checked read.0 read.1 read.2 why read.3
 
-    pub failure-comes : (why : CheckFault) → after ≡ Fault why → Fails index index' recording recording' found told why
-    failure-comes why is = fails-either why (subst (ComesAfter at index' recording') is comes)
+    pub failure-comes : (why : CheckFault) → after ≡ Fault why → FailsLines first start index index' recording recording' found told why
+    failure-comes why is = fails-either why (subst (ComesAfter growing at index' recording') is comes)
 
 -- ---- reads that failed
 
 -- if an allocation failed, a read that came after it may have failed too
-pub reads-beyond : (most : ℕ) (failed : Bool) (old new : ℕ) → new ≡ count_after failed old → (failed ≡ true → 1 < most) → HasReadBatches most false old new (Err fault.NoMemory)
+pub reads-beyond : {X : Type 0} (most : ℕ) (failed : Bool) (old new : ℕ) → new ≡ count_after failed old → (failed ≡ true → 1 < most) → HasReadBatches {X = X} most false old new (Err fault.NoMemory)
 reads-beyond most true old new is several = inr (several refl, inr (refl, is))
 reads-beyond most false old new is several = inl is
+
+-- the end of the index comes after the last batch
+pub end-no-more : (after : After) → after ≡ End → after ≡ More → ⊥
+end-no-more More is more = let clash : ⊥ = cc in clash
+end-no-more End is more = let clash : ⊥ = cc in clash
+end-no-more (Fault why) is more = let clash : ⊥ = cc in clash
 
 -- no read fails after a batch that isn't the last
 pub more-reads-no-index : (after : After) → fails_index after ≡ true → after ≡ More → ⊥
 more-reads-no-index More failed is = let clash : ⊥ = cc in clash
-more-reads-no-index (End more) failed is = let clash : ⊥ = cc in clash
+more-reads-no-index End failed is = let clash : ⊥ = cc in clash
 more-reads-no-index (Fault why) failed is = let clash : ⊥ = cc in clash
 
 pub more-reads-no-recording : (after : After) → fails_recording after ≡ true → after ≡ More → ⊥
 more-reads-no-recording More failed is = let clash : ⊥ = cc in clash
-more-reads-no-recording (End more) failed is = let clash : ⊥ = cc in clash
+more-reads-no-recording End failed is = let clash : ⊥ = cc in clash
 more-reads-no-recording (Fault why) failed is = let clash : ⊥ = cc in clash
 
 -- the last batch has fewer jobs than were asked for; so if it has any, they may be several
@@ -231,10 +242,10 @@ pub several-jobs : (jobs jobs' : List Listed) (asked most : ℕ) → length jobs
 several-jobs jobs jobs' asked most fewer looked some few = omega (arith, fewer, AllZip-long IsLookedAt jobs jobs' looked, some, few)
 
 -- with one job a batch there is no such read
-pub reads-alone : (blamed : Bool) (old new : ℕ) (result : Result Checked CheckFault) → HasReadBatches 1 blamed old new result → new ≡ count_after blamed old
+pub reads-alone : {X : Type 0} (blamed : Bool) (old new : ℕ) (result : Result X CheckFault) → HasReadBatches 1 blamed old new result → new ≡ count_after blamed old
 reads-alone blamed old new result (inl is) = is
 reads-alone blamed old new result (inr several) = let no : ⊥ = omega (arith, several.0) in absurd no
 
-pub reads-several : (most : ℕ) (blamed : Bool) (old new : ℕ) (result : Result Checked CheckFault) → HasReadBatches most blamed old new result → HasReadBeyond blamed old new result
+pub reads-several : {X : Type 0} (most : ℕ) (blamed : Bool) (old new : ℕ) (result : Result X CheckFault) → HasReadBatches most blamed old new result → HasReadBeyond blamed old new result
 reads-several most blamed old new result (inl is) = inl is
 reads-several most blamed old new result (inr several) = several.1

@@ -1,21 +1,22 @@
 -- The first line of the bytes of an index, and the number at the front of a text, up to a blank.
-use Rattle.std.proofs.Common.{◌≡◌, ◌≢◌, inl, inr, ℕ, suc, ◌+◌, ◌<◌, ◌≤◌, List, [], ◌∷◌, ◌++◌, length, take, drop, get_or, Option, None, Some, Result, Ok, Err, MatchResult, decimal, codes, refl, sym, ap, subst, ◌∙◌, arith, append_assoc, append-nil, length-append}
+use Rattle.std.proofs.Common.{◌≡◌, ◌≢◌, inl, inr, ℕ, zero, suc, ◌+◌, ◌<◌, ◌≤◌, List, [], ◌∷◌, ◌++◌, ◌&&◌, length, take, drop, get_or, Bool, true, false, Option, None, Some, Result, Ok, Err, MatchResult, slice_index, decimal, codes, refl, sym, ap, subst, ◌∙◌, arith, append_assoc, append-nil, length-append}
 use Rattle.std.proofs.Math.Seq.{get_or-append_seam, take-append_seam, drop-append_seam}
 use Rattle.std.proofs.lemmas.List.{get_or_append_left}
 use Rattle.std.proofs.lemmas.Bool.{cases_order, eqb-true, eq-eqb}
 use Rattle.std.proofs.lemmas.Fmt.{decimal_is_IsNumeral, parse-decimal, IsAscii-decimal}
 use Rattle.std.proofs.lemmas.Str.{IsUtf8-from_ascii}
+use Rattle.std.specs.Cmp.Derive.{both_true}
 use Rattle.std.specs.Result.{result_ok}
 use Rattle.std.specs.Str.{IsUtf8}
 use Rattle.std.specs.Str.Parse.{ParsesUnsigned}
 use Rattle.std.proofs.lemmas.Str.Parse.{digit_at}
 use Rattle.memchr.specs.Find.{IsFirstByte, is_byte}
-use Rattle.ls_frame.specs.View.Known.{Tells, TakesUntil, known}
+use Rattle.ls_frame.specs.View.Known.{Tells, Gave, TakesUntil, WasAtEnd, known}
 use Rattle.ls_frame.proofs.KnownLemmas.{known-consumed}
 use Rattle.ls_stream.specs.Grammar.{most_bytes}
 use Rattle.ls_film.specs.Listing.{column}
 use Rattle.ls_archive.specs.View.Checking.{HasNoLineFeed, beginning, EndsColumn}
-use Rattle.ls_archive.specs.View.Checks.{IsFrontLine}
+use Rattle.ls_archive.specs.View.Checks.{IsFrontLine, IsTorn, is_of_line, are_of_line, EndsLines}
 use Rattle.ls_archive.proofs.LineLemmas.{head_or, all-append, same_first}
 
 -- ---- up to the first LF
@@ -69,6 +70,75 @@ front-ended old mid before text one gave end same told front rest begins none fe
     let whole : front ++ 10 ∷ rest ≡ before ++ [] = sym (append_assoc front (10 ∷ []) rest) ∙ sym begins ∙ all ∙ sym (append-nil before) in
     let size : length front + suc (length rest) ≡ length before + 0 = sym (length-append front (10 ∷ rest)) ∙ ap length whole ∙ length-append before [] in
     absurd (no_feed_before front before rest [] one whole (omega (arith, size)))
+
+-- ---- the end of an index within a line
+
+-- a text in which no LF is found has none
+pub no_feed : (text : List ℕ) → IsFirstByte (is_byte 10) text None → HasNoLineFeed text
+no_feed [] none = tt
+no_feed (byte ∷ text) none = (
+  (λ same. none 0 (omega arith) (omega arith) (eq-eqb _ _ same)),
+  no_feed text (λ i low less. none (suc i) (omega arith) (omega arith)),
+)
+
+-- bytes that end with LF have one
+ends_fed : (before run : List ℕ) (last : ℕ) → last ≡ 10 → HasNoLineFeed (before ++ (run ++ last ∷ [])) → ⊥
+ends_fed [] [] last feed none = none.0 feed
+ends_fed [] (byte ∷ run) last feed none = ends_fed [] run last feed none.1
+ends_fed (byte ∷ before) run last feed none = ends_fed before run last feed none.1
+
+pub fed-whole : (most last : ℕ) (old new : Option (List ℕ)) (before after : List ℕ) → TakesUntil 10 most old new before after last → last ≡ 10 → HasNoLineFeed after → ⊥
+fed-whole most last old new before after taken feed none = ends_fed before taken.run last feed (subst HasNoLineFeed taken.appended none)
+
+-- one line without LF at its end has none
+pub torn-end : (old new : Option (List ℕ)) (text : List ℕ) → Gave old new (λ bytes. text ≡ bytes) → IsTorn text → (IsTorn text → Tells old → known new ≡ []) → EndsLines true old new
+torn-end old new text gave torn end told =
+    let read = gave told in
+    let left = end torn told in
+    let all : known old ≡ text = read.2 ∙ ap (λ s. read.1 ++ s) left ∙ append-nil read.1 ∙ sym read.3 in
+    (read.0, left, subst IsTorn (sym all) torn)
+
+pub torn-ends : (growing : Bool) (old new : Option (List ℕ)) (text : List ℕ) → growing ≡ true → Gave old new (λ bytes. text ≡ bytes) → IsTorn text → (IsTorn text → Tells old → known new ≡ [])
+    → EndsLines growing old new
+torn-ends growing old new text grown gave torn end = subst (λ g. EndsLines g old new) (sym grown) (torn-end old new text gave torn end)
+
+all_front : (front rest : List ℕ) → HasNoLineFeed (front ++ rest) → HasNoLineFeed front
+all_front [] rest all = tt
+all_front (byte ∷ front) rest all = (all.0, all_front front rest all.1)
+
+left_of : (a b : Bool) → (a && b) ≡ true → a ≡ true
+left_of true b both = refl
+left_of false b both = both
+
+right_of : (a b : Bool) → (a && b) ≡ true → b ≡ true
+right_of true b both = both
+right_of false b both = cc
+
+of_front : (front rest : List ℕ) → are_of_line (front ++ rest) ≡ true → are_of_line front ≡ true
+of_front [] rest all = refl
+of_front (byte ∷ front) rest all =
+    both_true (left_of (is_of_line byte) (are_of_line (front ++ rest)) all) (of_front front rest (right_of (is_of_line byte) (are_of_line (front ++ rest)) all))
+
+-- if what was taken isn't torn, what it was taken off isn't
+pub line-untorn : (growing : Bool) (old new : Option (List ℕ)) (text : List ℕ) → Gave old new (λ bytes. text ≡ bytes) → (growing ≡ true → IsTorn text → ⊥) → growing ≡ true → Tells old
+    → IsTorn (known old) → ⊥
+line-untorn growing old new text gave none grown told torn =
+    let read = gave told in
+    let all : IsTorn (read.1 ++ known new) = subst IsTorn read.2 torn in
+    none grown (subst IsTorn (sym read.3) (all_front read.1 (known new) all.0, omega (arith, all.1, length-append read.1 (known new)), of_front read.1 (known new) all.2))
+
+-- a text in which LF is found has one
+pub fed_at : (text : List ℕ) (k : ℕ) → k < length text → slice_index text k ≡ 10 → HasNoLineFeed text → ⊥
+fed_at [] k less feed none = omega (arith, less)
+fed_at (byte ∷ text) zero less feed none = none.0 feed
+fed_at (byte ∷ text) (suc k) less feed none = fed_at text k (omega arith) feed none.1
+
+-- so has the end of an index
+pub at-end : (growing : Bool) (old new : Option (List ℕ)) → WasAtEnd old new → EndsLines growing old new
+at-end false old new end = end
+at-end true old new end = λ told.
+    let was = end told in
+    (was.0, was.2, subst IsTorn (sym was.1) (tt, omega arith, refl))
 
 -- ---- up to the first blank, or the end
 

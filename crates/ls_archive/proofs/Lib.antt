@@ -1,5 +1,6 @@
 pub mod BatchLemmas
 pub mod CheckLemmas
+pub mod CheckedPartLemmas
 pub mod CodedLemmas
 pub mod ColumnLemmas
 pub mod ComparingLemmas
@@ -16,4 +17,5 @@ pub mod PlaceLemmas
 pub mod StrictLemmas
 pub mod VerdictLaws
 pub mod VerdictLemmas
+pub mod VerifiedPartLemmas
 pub mod VerifyLemmas

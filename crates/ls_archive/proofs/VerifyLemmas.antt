@@ -1,5 +1,5 @@
 -- A film and its recording, frame by frame.
-use Rattle.std.proofs.Common.{◌≡◌, ◌⊎◌, ℕ, ◌+◌, ◌<◌, inl, inr, true, false, List, [], ◌∷◌, ◌++◌, Option, Some, None, Ok, Err, IfOk, IfErr, IsTrue, refl, sym, ap, subst, ◌∙◌, arith}
+use Rattle.std.proofs.Common.{◌≡◌, ◌⊎◌, ℕ, ◌+◌, ◌<◌, ◌≤◌, inl, inr, true, false, List, [], ◌∷◌, ◌++◌, Option, Some, None, Ok, Err, IfOk, IfErr, IfSome, MatchResult, IsTrue, refl, sym, ap, subst, ◌∙◌, arith}
 use Rattle.std.proofs.lemmas.List.{length_push}
 use Rattle.std.proofs.lemmas.Bool.{cases_Bool, cond-true, cond-false}
 use Rattle.ls_frame.specs.Picture.{Picture, same_picture}
@@ -22,7 +22,7 @@ use Rattle.ls_archive.specs.declared.faults.VerifyFault.TheVariants.{Film, Recor
 use Rattle.ls_archive.specs.declared.verifying.Verdict.{Verdict}
 use Rattle.ls_archive.specs.declared.verifying.Verdict.TheVariants.{Same, Differs, Missing, Extra}
 use Rattle.ls_archive.specs.Verify.{difference_of}
-use Rattle.ls_archive.specs.View.Verifying.{BeginsWithImage, HaveRun, Finds, StopsAfter, Stops, GaveNext, verdict_at, IsCompared, at_most, StopsFilm, StopsRecording, FailsAfter, FailsNext, film_fault, recording_fault}
+use Rattle.ls_archive.specs.View.Verifying.{BeginsWithImage, HaveRun, Finds, StopsAfter, Stops, GaveNext, verdict_at, IsCompared, at_most, StopsFilm, StopsRecording, FailsAfter, FailsNext, film_fault, recording_fault, number_of, number_in}
 
 -- before the first frame
 pub HaveRun-none : (film recording : Option (List ℕ)) → HaveRun film film recording recording 0
@@ -271,3 +271,57 @@ most-fails recording read (Some (Same n)) = tt
 most-fails recording read (Some (Differs n what)) = tt
 most-fails recording read (Some (Missing n)) = tt
 most-fails recording read (Some (Extra n)) = tt
+
+-- ---- numbers
+
+-- a fault of the film's frame n, and of codestream n, and a verdict on these
+pub film-number : (film : Option (List ℕ)) (n : ℕ) (fault : VerifyFault) → StopsFilm film n fault → number_in fault ≤ n
+film-number film n (Film m fault) why = let few : m ≤ n = omega (arith, why.0) in few
+film-number film n (Recording m fault) why = absurd why
+film-number film n (RecordingIo m) why = absurd why
+film-number film n NoMemory why = let few : 0 ≤ n = omega arith in few
+film-number film n TooMany why = let few : 0 ≤ n = omega arith in few
+
+at_number : (n : ℕ) → n ≤ n
+at_number n = omega arith
+
+below_number : (n : ℕ) → 0 ≤ n
+below_number n = omega arith
+
+pub coded-number : (n : ℕ) (fault : StreamFault) → number_in (recording_fault n fault) ≤ n
+coded-number n stream.Truncated = at_number n
+coded-number n stream.NotSoi = at_number n
+coded-number n stream.BadSegment = at_number n
+coded-number n (stream.Unsupported what) = at_number n
+coded-number n (stream.BadPresets fault) = at_number n
+coded-number n stream.TooLarge = at_number n
+coded-number n (stream.BadCode component) = at_number n
+coded-number n (stream.LeftoverBits component) = at_number n
+coded-number n stream.NoMemory = below_number n
+
+pub verdict-number : (n : ℕ) (image coded : Option Picture) → IfSome (verdict_at n image coded) (λ verdict. number_of verdict ≡ n)
+verdict-number n (Some f) (Some g) = elim (cases_Bool (same_picture f g)) [
+  | inl same ↦ subst (λ v. IfSome v (λ verdict. number_of verdict ≡ n)) (sym (cond-true (same_picture f g) None (Some (Differs n (difference_of f g))) same)) tt
+  | inr other ↦ subst (λ v. IfSome v (λ verdict. number_of verdict ≡ n)) (sym (cond-false (same_picture f g) None (Some (Differs n (difference_of f g))) other)) refl
+]
+verdict-number n (Some f) None = refl
+verdict-number n None (Some g) = refl
+verdict-number n None None = refl
+
+-- after the most frames
+pub most-number : (v : Option Verdict) → IfSome v (λ verdict. number_of verdict ≡ most_frames) → MatchResult (at_most v) (λ verdict. number_of verdict ≤ most_frames) (λ fault. number_in fault ≤ most_frames)
+most-number None is = below_number most_frames
+most-number (Some (Same n)) is = let same : n ≡ most_frames = is in let few : n ≤ most_frames = omega (arith, same) in few
+most-number (Some (Differs n what)) is = below_number most_frames
+most-number (Some (Missing n)) is = below_number most_frames
+most-number (Some (Extra n)) is = below_number most_frames
+
+-- before the last
+pub number-below : (n m most : ℕ) → n ≤ m → m < most → n < most
+number-below n m most few less = omega (arith, few, less)
+
+pub number-at : (n m most : ℕ) → n ≡ m → m < most → n < most
+number-at n m most same less = omega (arith, same, less)
+
+pub number-few : (n most : ℕ) → n < most → n ≤ most
+number-few n most less = omega (arith, less)

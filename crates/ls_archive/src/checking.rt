@@ -13,12 +13,14 @@ ghost use Rattle.ls_stream.specs.Grammar.{Spells, most_bytes};
 ghost use Rattle.ls_film.specs.View.Steps.{failed_by};
 ghost use Rattle.ls_archive.specs.View.Checking.{Line, HasNoLineFeed, beginning, AreNumbers, EndsColumn, IsSum, sum_at_end, AreColumns, IsLine, HasEntry, HasLine, IsGood, IsDamage};
 ghost use Rattle.ls_archive.specs.Index.{line};
-ghost use Rattle.ls_archive.specs.View.Checks.{FindsMore, GaveAtMost, IsOneLine, IsFrontLine, IsFound, HasLooked, HasChecked, IsChecked, StopsNextLine, StopsReading, Stops, Fails, blames_index, blames_recording};
+ghost use Rattle.ls_archive.specs.View.Checks.{FindsMore, GaveAtMost, IsOneLine, IsFrontLine, IsTorn, is_of_line, are_of_line, IsUntorn, EndsLines, IsFound, HasLooked, HasChecked, IsChecked, StopsNextLine, StopsReading, Stops, Fails, blames_index, blames_recording};
 ghost use Rattle.ls_archive.specs.View.Batches.{HasReadBeyond, HasReadBatches};
+ghost use Rattle.ls_archive.specs.View.CheckedLines.{HasCheckedLines, StopsLines, FailsLines};
 ghost use Rattle.ls_archive.specs.declared.checking.Finding.{Finding};
 
 mod batches;
 mod looking;
+pub mod part;
 
 use crate::entry::Indexed;
 use crate::index::line;
@@ -211,30 +213,72 @@ fn check_all<L: Looking, I: Feed, R: Feed, F: Findings>(
     ensures index_reads { HasReadBatches L.most (failed_by blames_index result) (I.failed_reads index.old) (I.failed_reads index.new) result }
     ensures reads { HasReadBatches L.most (failed_by blames_recording result) (R.failed_reads recording.old) (R.failed_reads recording.new) result }
 {
-    let mut so_far = SoFar {
+    let begun = SoFar {
         number: 0,
         offset: 0,
         damaged: 0,
     };
-    while so_far.number < MOST_FRAMES {
-        let most = looking.batch().min(MOST_FRAMES - so_far.number);
-        let mut batch = take(alloc, index, recording, so_far, most);
+    let until = Until {
+        end: MOST_FRAMES,
+        growing: false,
+    };
+    let (so_far, ended) = check_lines(alloc, looking, index, recording, findings, begun, until)?;
+    if ended {
+        end_of(alloc, recording, so_far)
+    } else {
+        end_at_most(alloc, index, recording, so_far)
+    }
+}
+
+/// Where a check of lines ends.
+#[derive(Clone, Copy)]
+pub(crate) struct Until {
+    /// The number after that of the last line that is checked, unless the index ends before it.
+    pub(crate) end: u64,
+    /// Whether the index may end within a line, which then isn't there yet.
+    pub(crate) growing: bool,
+}
+
+/// Checks the codestreams of the next lines of an index, batch by batch, whoever looks at them. Returns how far the
+/// check is then, and whether the index ended.
+pub(crate) fn check_lines<L: Looking, I: Feed, R: Feed, F: Findings>(
+    alloc: Global,
+    looking: &L,
+    index: &mut I,
+    recording: &mut R,
+    findings: &mut F,
+    begun: SoFar,
+    until: Until,
+) -> Result<(SoFar, bool), CheckFault>
+    requires may_run { L.may_run }
+    requires order { begun.number ≤ until.end }
+    requires few { until.end ≤ most_frames }
+    requires bounded { begun.offset ≤ 2 ^ 32 * begun.number }
+    requires none { begun.damaged ≡ 0 }
+    ensures checked { IfOk result (λ done. HasCheckedLines begun.number begun.offset until.growing (I.remaining index.old) (I.remaining index.new)
+        (R.remaining recording.old) (R.remaining recording.new) (F.found findings.old) (F.found findings.new) done.0.number done.0.offset done.0.damaged done.1) }
+    ensures all { IfOk result (λ done. done.1 ≡ false → done.0.number ≡ until.end) }
+    ensures lacks { IfOk result (λ done. done.1 ≡ true → done.0.number < until.end) }
+    ensures stops { IfErr result (StopsLines begun.number begun.offset (I.remaining index.old) (I.remaining index.new)
+        (R.remaining recording.old) (R.remaining recording.new) (F.found findings.old) (F.found findings.new) until.growing) }
+    ensures fails { IfErr result (FailsLines begun.number begun.offset (I.remaining index.old) (I.remaining index.new)
+        (R.remaining recording.old) (R.remaining recording.new) (F.found findings.old) (F.found findings.new)) }
+    ensures index_reads { HasReadBatches L.most (failed_by blames_index result) (I.failed_reads index.old) (I.failed_reads index.new) result }
+    ensures reads { HasReadBatches L.most (failed_by blames_recording result) (R.failed_reads recording.old) (R.failed_reads recording.new) result }
+{
+    let mut so_far = begun;
+    while so_far.number < until.end {
+        let most = looking.batch().min(until.end - so_far.number);
+        let mut batch = take(alloc, index, recording, so_far, most, until.growing);
         looking.look_at_all(alloc, &mut batch.jobs);
         so_far = tell_all(&batch.jobs, so_far, findings)?;
         match batch.after {
             After::More => {}
-            After::End(more) => {
-                return Ok(Checked {
-                    frames: so_far.number,
-                    damaged: so_far.damaged,
-                    bytes: so_far.offset,
-                    more,
-                });
-            }
+            After::End => return Ok((so_far, true)),
             After::Fault(fault) => return Err(fault),
         }
     }
-    end_at_most(alloc, index, recording, so_far.offset, so_far.damaged)
+    Ok((so_far, false))
 }
 
 /// Ends a check after the most lines that an index may have: fails with `TooMany` if another line follows.
@@ -242,29 +286,46 @@ fn end_at_most<I: Feed, R: Feed>(
     alloc: Global,
     index: &mut I,
     recording: &mut R,
-    offset: u64,
-    damaged: u64,
+    so_far: SoFar,
 ) -> Result<Checked, CheckFault>
+    requires { so_far.number ≡ most_frames }
     ensures checked { (lines whole : Option (List ℕ)) (found found' : Option (List Finding))
-        → HasChecked lines (I.remaining index.old) whole (R.remaining recording.old) found found' most_frames offset damaged
+        → HasChecked 0 0 lines (I.remaining index.old) whole (R.remaining recording.old) found found' so_far.number so_far.offset so_far.damaged
         → IfOk result (IsChecked lines whole found found') }
     ensures stops { (lines whole : Option (List ℕ)) (found found' : Option (List Finding))
-        → HasChecked lines (I.remaining index.old) whole (R.remaining recording.old) found found' most_frames offset damaged
+        → HasChecked 0 0 lines (I.remaining index.old) whole (R.remaining recording.old) found found' so_far.number so_far.offset so_far.damaged
         → IfErr result (Stops lines whole found found') }
     ensures fails { (lines whole : Option (List ℕ)) (found found' : Option (List Finding))
-        → HasChecked lines (I.remaining index.old) whole (R.remaining recording.old) found found' most_frames offset damaged
+        → HasChecked 0 0 lines (I.remaining index.old) whole (R.remaining recording.old) found found' so_far.number so_far.offset so_far.damaged
         → IfErr result (Fails lines (I.remaining index.new) whole (R.remaining recording.new) found found') }
     ensures index_reads { I.failed_reads index.new ≡ count_after (failed_by blames_index result) (I.failed_reads index.old) }
     ensures reads { R.failed_reads recording.new ≡ count_after (failed_by blames_recording result) (R.failed_reads recording.old) }
 {
-    let None = next_line(alloc, index, MOST_FRAMES, offset)? else {
+    let None = next_line(alloc, index, so_far.number, so_far.offset)? else {
         return Err(CheckFault::TooMany);
     };
+    end_of(alloc, recording, so_far)
+}
+
+/// Ends a check at the end of its index.
+fn end_of<R: Feed>(alloc: Global, recording: &mut R, so_far: SoFar) -> Result<Checked, CheckFault>
+    ensures checked { (lines mid index' whole : Option (List ℕ)) (found found' : Option (List Finding))
+        → HasChecked 0 0 lines mid whole (R.remaining recording.old) found found' so_far.number so_far.offset so_far.damaged → WasAtEnd mid index'
+        → IfOk result (IsChecked lines whole found found') }
+    ensures stops { (lines mid index' whole : Option (List ℕ)) (found found' : Option (List Finding))
+        → HasChecked 0 0 lines mid whole (R.remaining recording.old) found found' so_far.number so_far.offset so_far.damaged → WasAtEnd mid index'
+        → IfErr result (Stops lines whole found found') }
+    ensures fails { (lines mid index' whole : Option (List ℕ)) (found found' : Option (List Finding))
+        → HasChecked 0 0 lines mid whole (R.remaining recording.old) found found' so_far.number so_far.offset so_far.damaged → WasAtEnd mid index'
+        → IfErr result (Fails lines index' whole (R.remaining recording.new) found found') }
+    ensures blame { failed_by blames_index result ≡ false }
+    ensures reads { R.failed_reads recording.new ≡ count_after (failed_by blames_recording result) (R.failed_reads recording.old) }
+{
     let more = has_more(alloc, recording)?;
     Ok(Checked {
-        frames: MOST_FRAMES,
-        damaged,
-        bytes: offset,
+        frames: so_far.number,
+        damaged: so_far.damaged,
+        bytes: so_far.offset,
         more,
     })
 }
@@ -296,12 +357,34 @@ pub(crate) fn next_line<I: Feed>(
     ensures stops { IfErr result (StopsNextLine (I.remaining index.old) (I.remaining index.new) number offset) }
     ensures failures { I.failed_reads index.new ≡ count_after (failed_by blames_index result) (I.failed_reads index.old) }
 {
+    next_written(alloc, index, number, offset, false)
+}
+
+/// The same; with `growing` also `None` where the index ends within a line.
+pub(crate) fn next_written<I: Feed>(
+    alloc: Global,
+    index: &mut I,
+    number: u64,
+    offset: u64,
+    growing: bool,
+) -> Result<Option<IndexLine>, CheckFault>
+    ensures is { IfOk result (λ next. IfSome next (λ line. IsLine number offset (record { text = line.text.items; size = line.size; sum = line.sum }))) }
+    ensures gave { IfOk result (λ next. IfSome next (λ line. Gave (I.remaining index.old) (I.remaining index.new) (λ bytes. line.text.items ≡ bytes))) }
+    ensures end { IfOk result (λ next. IfNone next (EndsLines growing (I.remaining index.old) (I.remaining index.new))) }
+    ensures blame { IfErr result (λ fault. fault ≢ CheckFault.Io) }
+    ensures stops { IfErr result (StopsNextLine (I.remaining index.old) (I.remaining index.new) number offset) }
+    ensures untorn { IfErr result (IsUntorn growing (I.remaining index.old)) }
+    ensures failures { I.failed_reads index.new ≡ count_after (failed_by blames_index result) (I.failed_reads index.old) }
+{
     let text = match take_line(alloc, index) {
         Ok(Some(text)) => text,
         Ok(None) => return Ok(None),
         Err(FeedFault::Io) => return Err(CheckFault::IndexIo),
         Err(FeedFault::NoMemory) => return Err(CheckFault::NoMemory),
     };
+    if ends_within(growing, &text) {
+        return Ok(None);
+    }
     let Some((size, columns)) = size_in(alloc, number, offset, &text)? else {
         return Err(CheckFault::Line(number));
     };
@@ -311,6 +394,63 @@ pub(crate) fn next_line<I: Feed>(
     }
 }
 
+/// Whether a text that was taken off an index isn't a line yet, where the index may end within one.
+fn ends_within(growing: bool, text: &[u8]) -> bool
+    ensures some { result ≡ true → (growing ≡ true) × IsTorn text.now }
+    ensures none { result ≡ false → growing ≡ true → IsTorn text.now → ⊥ }
+{
+    if !growing {
+        return false;
+    }
+    is_torn(text)
+}
+
+/// Whether a text that was taken off an index may be the beginning of a line: it has no LF, though a line may be longer,
+/// and no byte that a line hasn't.
+fn is_torn(text: &[u8]) -> bool
+    ensures some { result ≡ true → IsTorn text.now }
+    ensures none { result ≡ false → IsTorn text.now → ⊥ }
+{
+    match memchr(b'\n', text) {
+        Some(_) => false,
+        None => is_beginning(text),
+    }
+}
+
+/// Whether a line may have more bytes than these, and each of them.
+fn is_beginning(text: &[u8]) -> bool
+    ensures some { result ≡ true → (length text.now < 1024) × (are_of_line text.now ≡ true) }
+    ensures none { result ≡ false → length text.now < 1024 → are_of_line text.now ≡ true → ⊥ }
+{
+    if is_short(text.len()) {
+        are_of_line(text)
+    } else {
+        false
+    }
+}
+
+/// Whether lines have each of these bytes before LF.
+fn are_of_line(text: &[u8]) -> bool
+    ensures { result ≡ are_of_line text.now }
+{
+    text.iter().all(|byte| is_of_line(*byte))
+}
+
+/// Whether lines have such a byte before LF: of a number, of a word in small letters, or a blank.
+fn is_of_line(byte: u8) -> bool
+    ensures { result ≡ is_of_line byte }
+{
+    byte == b' ' || b'0' <= byte && byte <= b'9' || b'a' <= byte && byte <= b'z'
+}
+
+/// Whether a line may have more bytes than these.
+fn is_short(count: usize) -> bool
+    ensures some { result ≡ true → count < 1024 }
+    ensures none { result ≡ false → 1024 ≤ count }
+{
+    count < MOST_LINE
+}
+
 /// Takes the bytes up to and including the next LF off a reader, or as many as a line may have, or all that are left;
 /// `None` at its end.
 fn take_line<I: Feed>(alloc: Global, reader: &mut I) -> Result<Option<Vec<u8>>, FeedFault>
@@ -318,6 +458,7 @@ fn take_line<I: Feed>(alloc: Global, reader: &mut I) -> Result<Option<Vec<u8>>, 
     ensures one { IfOk result (λ next. IfSome next (λ line. IsOneLine line.items)) }
     ensures front { IfOk result (λ next. IfSome next (λ line. Tells (I.remaining reader.old) → IsFrontLine (known (I.remaining reader.old)) line.items)) }
     ensures short { IfOk result (λ next. IfSome next (λ line. length line.items ≤ 1024)) }
+    ensures torn { IfOk result (λ next. IfSome next (λ line. IsTorn line.items → Tells (I.remaining reader.old) → known (I.remaining reader.new) ≡ [])) }
     ensures end { IfOk result (λ next. IfNone next (WasAtEnd (I.remaining reader.old) (I.remaining reader.new))) }
     ensures io { IfErr result (λ fault. fault ≡ FeedFault.Io → Gave (I.remaining reader.old) (I.remaining reader.new) HasNoLineFeed) }
     ensures memory { IfErr result (λ fault. fault ≡ FeedFault.NoMemory → HadBytes (I.remaining reader.old)) }

@@ -12,12 +12,13 @@ ghost use Rattle.ls_archive.specs.View.Following.{followed, recording_of, IsComp
 
 use crate::faults::IndexFault;
 use crate::following::{Follower, Indexing};
-use ls_film::{FilmFault, code_film};
+use ls_film::{FilmFault, code_film_by};
 use ls_frame::{Failed, Feed, Outlet};
 use std::alloc::Global;
 use std::io;
 use std::io::Write;
 use std::marker::{Brand, Model, PhantomData};
+use std::thread::Threads;
 
 /// A film that was coded while its index was written.
 #[derive(Drop)]
@@ -32,11 +33,12 @@ pub struct CodedFilm<W, I> {
     pub broken: Option<IndexFault>,
 }
 
-/// Codes a film, as `code_film` does, and writes the index of the codestreams, with sums, as they are written.
+/// Codes a film, as `code_film_by` does, and writes the index of the codestreams, with sums, as they are written.
 ///
 /// If the index fails, the coding goes on without it. If neither fails, the index is what `write_index` writes for the
 /// codestreams.
-pub fn code_film_with_index<R: Feed, W: Outlet, I: Outlet>(
+pub fn code_film_with_index<Rt: Threads, R: Feed, W: Outlet, I: Outlet>(
+    rt: &Rt,
     alloc: Global,
     film: &mut R,
     recording: W,
@@ -49,11 +51,12 @@ pub fn code_film_with_index<R: Feed, W: Outlet, I: Outlet>(
     ensures reads { R.failed_reads film.new ≡ count_after (failed_by blames_reader result.result) (R.failed_reads film.old) }
     ensures writes { W.failed_writes result.recording ≡ count_after (failed_by blames_writer result.result) (W.failed_writes recording) }
 {
-    code_from::<Brand, R, W, I>(alloc, film, recording, index)
+    code_from::<Brand, Rt, R, W, I>(rt, alloc, film, recording, index)
 }
 
 /// The same, where `K` says what both writers have at first.
-fn code_from<K: Beginning, R: Feed, W: Outlet, I: Outlet>(
+fn code_from<K: Beginning, Rt: Threads, R: Feed, W: Outlet, I: Outlet>(
+    rt: &Rt,
     alloc: Global,
     film: &mut R,
     recording: W,
@@ -69,7 +72,7 @@ fn code_from<K: Beginning, R: Feed, W: Outlet, I: Outlet>(
     ensures writes { W.failed_writes result.recording ≡ count_after (failed_by blames_writer result.result) (W.failed_writes recording) }
 {
     let mut writer = Begun::<K, W, I>::new(alloc, recording, index);
-    let result = code_film(alloc, film, &mut writer);
+    let result = code_film_by(rt, alloc, film, &mut writer);
     let (recording, follower, broken) = writer.into_parts();
     let broken = broken_at_end(result, broken, &follower);
     CodedFilm {

@@ -48,6 +48,7 @@ pub mod places;
 pub mod strict;
 pub mod verifying;
 
+pub use checking::part::{CheckPartFault, check_listed, check_listed_by};
 pub use checking::{CheckFault, Checked, Damage, Finding, Findings, check, check_by};
 pub use coding::{CodedFilm, code_film_with_index};
 pub use faults::{IndexFault, VerifyFault};
@@ -56,4 +57,5 @@ pub use index::{index_bytes, write_index};
 pub use listed::{ListedFault, pass_line_end, pass_lines, play_listed};
 pub use places::{Wanted, find_places, read_index};
 pub use strict::{Strict, read_strict};
+pub use verifying::part::{VerifyPartFault, verify_part};
 pub use verifying::{Difference, Verdict, verify, verify_by, verify_bytes};

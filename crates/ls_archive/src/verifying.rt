@@ -1,5 +1,5 @@
 //! Whether a recording has a film's frames, frame by frame, whatever the headers' form.
-ghost use Rattle.std.specs.Prelude.{◌≡◌, ◌≤◌, ◌⊎◌, ◌||◌, ℕ, false, List, Option, length, IfOk, IfErr, MatchResult};
+ghost use Rattle.std.specs.Prelude.{◌≡◌, ◌≤◌, ◌<◌, ◌⊎◌, ◌||◌, ℕ, false, List, Option, length, IfOk, IfErr, IfSome, IfNone, MatchResult};
 ghost use Rattle.ls_frame.specs.Netpbm.{IsImageOf};
 ghost use Rattle.ls_frame.specs.Picture.{Picture};
 ghost use Rattle.ls_frame.specs.View.Devices.{count_after};
@@ -7,8 +7,10 @@ ghost use Rattle.ls_stream.specs.Grammar.{Spells};
 ghost use Rattle.ls_film.specs.Film.{most_frames, IsFilm};
 ghost use Rattle.ls_film.specs.View.Steps.{failed_by};
 ghost use Rattle.ls_archive.specs.Verify.{Compares, difference_of};
-ghost use Rattle.ls_archive.specs.View.Comparing.{GivesCoded, HasCompared, HasFound, FindsAhead, HasReadAhead};
-ghost use Rattle.ls_archive.specs.View.Verifying.{FailsAfter, FailsNext, Finds, Stops, GaveNext, StopsFilm, StopsRecording, verdict_at, at_most, blames_film, blames_recording, FindsIn, StopsIn};
+ghost use Rattle.ls_archive.specs.View.Comparing.{GivesCoded, HasCompared, HasFound, HasRunTo, FindsAhead, HasReadAhead};
+ghost use Rattle.ls_archive.specs.View.Verifying.{FailsAfter, FailsNext, Finds, Stops, GaveNext, StopsFilm, StopsRecording, verdict_at, at_most, blames_film, blames_recording, FindsIn, StopsIn, number_of, number_in};
+
+pub mod part;
 
 use crate::faults::VerifyFault;
 use ls_film::MOST_FRAMES;
@@ -113,7 +115,7 @@ pub fn verify_bytes(alloc: Global, film: &[u8], recording: &[u8]) -> Result<Verd
 }
 
 /// Compares a film with a recording, whose frames come from a source.
-fn compare_all<S: Recorded<Frame>, F: Feed, R: Feed>(
+pub(crate) fn compare_all<S: Recorded<Frame>, F: Feed, R: Feed>(
     alloc: Global,
     film: &mut F,
     source: &mut S,
@@ -129,17 +131,48 @@ fn compare_all<S: Recorded<Frame>, F: Feed, R: Feed>(
     ensures film_reads { F.failed_reads film.new ≡ count_after (failed_by blames_film result) (F.failed_reads film.old) }
     ensures recording_reads { (failed : ℕ) → R.failed_reads recording.old ≡ count_after (S.Images.owes source.old) failed
         → R.failed_reads recording.new ≡ count_after (failed_by blames_recording result || S.Images.owes source.new) failed }
+    ensures number { MatchResult result (λ verdict. number_of verdict ≤ most_frames) (λ fault. number_in fault ≤ most_frames) }
 {
-    for number in 0..MOST_FRAMES + 1 {
+    let first = compare_first::<S, F, R>(alloc, film, source, recording, MOST_FRAMES)?;
+    if let Some(verdict) = first {
+        return Ok(verdict);
+    }
+    let last = compare::<S, F, R>(alloc, film, source, recording, MOST_FRAMES)?;
+    at_most(last)
+}
+
+/// Compares the first `most` frames of a film and a recording, and returns the verdict on them; `None` if both have so
+/// many, and these are equal.
+pub(crate) fn compare_first<S: Recorded<Frame>, F: Feed, R: Feed>(
+    alloc: Global,
+    film: &mut F,
+    source: &mut S,
+    recording: &mut R,
+    most: u64,
+) -> Result<Option<Verdict>, VerifyFault>
+    requires may_run { S.Images.may_run }
+    requires few { most ≤ most_frames }
+    ensures finds { (place : Option (List ℕ)) → S.Images.stands source.old place (R.remaining recording.old)
+        → IfOk result (λ verdict. IfSome verdict (HasFound S.Images.stands (F.remaining film.old) (F.remaining film.new) place (R.remaining recording.new) source.new)) }
+    ensures same { (place : Option (List ℕ)) → S.Images.stands source.old place (R.remaining recording.old)
+        → IfOk result (λ verdict. IfNone verdict (HasRunTo S.Images.stands (F.remaining film.old) (F.remaining film.new) place (R.remaining recording.new) source.new most)) }
+    ensures before { IfOk result (λ verdict. IfSome verdict (λ verdict. number_of verdict < most)) }
+    ensures stops { (place : Option (List ℕ)) → S.Images.stands source.old place (R.remaining recording.old)
+        → IfErr result (Stops (F.remaining film.old) place) }
+    ensures io { (place : Option (List ℕ)) → S.Images.stands source.old place (R.remaining recording.old)
+        → IfErr result (FailsAfter place (R.remaining recording.new)) }
+    ensures number { IfErr result (λ fault. number_in fault < most) }
+    ensures film_reads { F.failed_reads film.new ≡ count_after (failed_by blames_film result) (F.failed_reads film.old) }
+    ensures recording_reads { (failed : ℕ) → R.failed_reads recording.old ≡ count_after (S.Images.owes source.old) failed
+        → R.failed_reads recording.new ≡ count_after (failed_by blames_recording result || S.Images.owes source.new) failed }
+{
+    for number in 0..most {
         let compared = compare::<S, F, R>(alloc, film, source, recording, number)?;
-        if number == MOST_FRAMES {
-            return at_most(compared);
-        }
         if let Some(verdict) = compared {
-            return Ok(verdict);
+            return Ok(Some(verdict));
         }
     }
-    unreachable!()
+    Ok(None)
 }
 
 /// Reads the frames of this number, and returns the verdict on them; `None` if they are equal.
@@ -160,6 +193,7 @@ fn compare<S: Recorded<Frame>, F: Feed, R: Feed>(
     ensures film_reads { F.failed_reads film.new ≡ count_after (failed_by blames_film result) (F.failed_reads film.old) }
     ensures recording_reads { (failed : ℕ) → R.failed_reads recording.old ≡ count_after (S.Images.owes source.old) failed
         → R.failed_reads recording.new ≡ count_after (failed_by blames_recording result || S.Images.owes source.new) failed }
+    ensures number { MatchResult result (λ verdict. IfSome verdict (λ verdict. number_of verdict ≡ number)) (λ fault. number_in fault ≤ number) }
 {
     let image = next_image(alloc, film, number)?;
     let coded = next_coded::<S, R>(alloc, source, recording, number)?;
@@ -167,7 +201,7 @@ fn compare<S: Recorded<Frame>, F: Feed, R: Feed>(
 }
 
 /// The film's frame of this number; `None` exactly at its end.
-fn next_image<F: Feed>(
+pub(crate) fn next_image<F: Feed>(
     alloc: Global,
     film: &mut F,
     number: u64,
@@ -196,6 +230,7 @@ fn next_coded<S: Recorded<Frame>, R: Feed>(
         → IfErr result (StopsRecording place number) }
     ensures io { (place : Option (List ℕ)) → S.Images.stands source.old place (R.remaining recording.old)
         → IfErr result (FailsNext place (R.remaining recording.new) number) }
+    ensures number { IfErr result (λ fault. number_in fault ≤ number) }
     ensures film_reads { failed_by blames_film result ≡ false }
     ensures recording_reads { (failed : ℕ) → R.failed_reads recording.old ≡ count_after (S.Images.owes source.old) failed
         → R.failed_reads recording.new ≡ count_after (failed_by blames_recording result || S.Images.owes source.new) failed }

@@ -4,7 +4,7 @@ use Rattle.std.specs.Prelude.{◌&&◌, int_lt, int_le, unsigned_abs, ◌+ℤ◌
 use Rattle.std.proofs.Math.ListN.{set}
 use Rattle.std.proofs.lemmas.Int.{ints, to_z-of_z}
 use Rattle.std.proofs.lemmas.Bool.{ne_eqb, cond-false, cases_lt}
-use Rattle.std.proofs.lemmas.List.{get_or-set_same, get_or-set_other, get_or_read}
+use Rattle.std.proofs.lemmas.List.{get_or-set_same, get_or-set_other}
 use lib.Signed.{mag}
 use mir.Syntax.{w8, w16}
 use mir.Val.{to_z, of_z}
@@ -282,10 +282,9 @@ set_more xs k x P inside here before j h =
     ]
 
 -- what is looked up in the table
-pub region_read : (p : Parameters) (table : List ℤ) (over other place : ℕ) (z : ℤ) → AreRegions p table → over ≤ p.maxval → other ≤ p.maxval
-    → place ≡ p.maxval + over - other → z ≡ get_or table place z → z ≡ region p (pos over -ℤ pos other)
-region_read p table over other place z regions a b at e =
-    let inside : place < length table = omega (arith, regions.whole) in
+pub region_read : (p : Parameters) (table : List ℤ) (over other place : ℕ) → AreRegions p table → over ≤ p.maxval → other ≤ p.maxval
+    → place ≡ p.maxval + over - other → get_or table place (pos 0) ≡ region p (pos over -ℤ pos other)
+region_read p table over other place regions a b at =
     let within : place < 2 * p.maxval + 1 = omega arith in
     let difference : pos place -ℤ pos p.maxval ≡ pos over -ℤ pos other = omega (arith, ints) in
-    get_or_read table place z inside e (pos 0) ∙ regions.regions place within ∙ ap (region p) difference
+    regions.regions place within ∙ ap (region p) difference

@@ -109,13 +109,21 @@ impl Counters {
         let k = self.parameter(number);
         let value = mapped_error(k, self.b[number], self.n[number], error);
         let glimit = self.limit;
-        self.add(number, error);
+        self.add(self.presets, number, error);
         Word { k, glimit, value }
     }
 
-    /// The plan for decoding a sample of regular mode.
+    /// The plan for decoding a sample of regular mode. The scan's parameters are passed by value, so that they stay in
+    /// registers.
     #[tactic(auto, unfolding(crate::specs::View::Plans::regular_plan_by))]
-    pub fn plan(&self, context: Context, middle: u32, neighbours: &Neighbours) -> Plan
+    pub fn plan(
+        &self,
+        presets: Presets,
+        context: Context,
+        middle: u32,
+        neighbours: &Neighbours,
+    ) -> Plan
+        requires presets { presets ≡ self.now.presets }
         requires number { context.number ≡ (context_of self.now.presets neighbours.now).number }
         requires negative { context.negative ≡ (context_of self.now.presets neighbours.now).negative }
         requires within { context.number < 365 }
@@ -134,7 +142,7 @@ impl Counters {
             glimit: self.limit,
             number,
             negative: context.negative,
-            prediction: predicted(self.presets, context.negative, self.c[number], middle),
+            prediction: predicted(presets, context.negative, self.c[number], middle),
         }
     }
 
@@ -174,19 +182,22 @@ impl Counters {
             return Err(CodeFault::NotCanonical);
         }
         let sample = sample_of(self.presets, negative, prediction, error);
-        self.add(number, error);
+        self.add(self.presets, number, error);
         Ok(sample)
     }
 
-    /// As `accept`, for a mapped error below RANGE - 1, for which there always is a sample.
+    /// As `accept`, for a mapped error below RANGE - 1, for which there always is a sample. The scan's parameters are
+    /// passed by value.
     pub fn accept_sure(
         &mut self,
+        presets: Presets,
         number: usize,
         negative: bool,
         prediction: u16,
         k: u32,
         value: u32,
     ) -> u16
+        requires presets { presets ≡ self.old.presets }
         requires number { number < 365 }
         requires prediction { prediction ≤ self.old.presets.maxval }
         requires value { value + 1 < range_of self.old.presets.maxval }
@@ -204,8 +215,8 @@ impl Counters {
         ensures parameters { self.new.presets ≡ self.old.presets }
     {
         let reduced = unmapped_error(k, self.b[number], self.n[number], value);
-        let sample = sample_of(self.presets, negative, prediction, reduced);
-        self.add(number, reduced);
+        let sample = sample_of(presets, negative, prediction, reduced);
+        self.add(presets, number, reduced);
         sample
     }
 
@@ -346,7 +357,8 @@ impl Counters {
     }
 
     /// Counts an error in a context of regular mode.
-    fn add(&mut self, number: usize, error: i32)
+    fn add(&mut self, presets: Presets, number: usize, error: i32)
+        requires presets { presets ≡ self.old.presets }
         requires number { number < 365 }
         requires sound { IsSound self.old }
         requires error { IsReduced (range_of self.old.presets.maxval) error }
@@ -359,7 +371,7 @@ impl Counters {
         ensures parameters { self.new.presets ≡ self.old.presets }
     {
         update(
-            self.presets,
+            presets,
             &mut self.a[number],
             &mut self.b[number],
             &mut self.c[number],

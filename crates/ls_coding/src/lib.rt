@@ -34,7 +34,8 @@
 //! before a sample is coded (`mirror`), for example a line at a time, and passed to `code_regular_at`. A decoder knows
 //! only the line above: it may compute that line's part of each context beforehand (`half_context`), and the rest at
 //! each sample (`whole_context`, by a table, `Regions`) for `plan_regular_at`; likewise the two differences from which
-//! `median_by` computes the median. Only making that table allocates.
+//! `median_by` computes the median. Only making that table allocates. A decoder that holds the scan's presets and a
+//! `RegionsView` by value keeps them in registers (`plan_regular_with`, `accept_sure_with`).
 //!
 //! In reading order: `neighbours` (the samples around one, and the mode that they call for), `state` (all calls),
 //! `word`, `plan`, `run` (what they return), `mirrored` (what may be computed beforehand), `counters` (the counters of
@@ -63,7 +64,7 @@ pub use error::median_by;
 pub use mirrored::{Mirrored, mirror};
 pub use neighbours::{Mode, Neighbours, mode_of};
 pub use plan::Plan;
-pub use regions::{Regions, whole_context};
+pub use regions::{Regions, RegionsView, whole_context};
 pub use run::{RunWord, Tail};
 pub use state::State;
 pub use sure_zeros::SureZeros;

@@ -44,6 +44,59 @@ impl Regions {
         Ok(Regions { presets, table })
     }
 
+    /// The parameters and the table, to be held by value. Allocates nothing and cannot fail.
+    pub fn view(&self) -> RegionsView<'_>
+        ensures { result ≡ self.now }
+    {
+        RegionsView {
+            presets: self.presets,
+            table: &self.table,
+        }
+    }
+}
+
+/// The table of a `Regions`, and its parameters. The decoder holds it by value, so that both stay in registers.
+///
+/// In contracts it stands for the parameters, as `Regions` does.
+#[derive(Drop)]
+pub struct RegionsView<'a> {
+    presets: Presets,
+    /// The regions, starting with that of -MAXVAL.
+    table: &'a [i8],
+}
+
+impl<'a> Model for RegionsView<'a> {
+    ghost use Rattle.ls_frame.specs.Parameters.{Parameters};
+    ghost use Rattle.ls_coding.specs.View.RegionTables.{AreRegions};
+
+    ghost Value = { Parameters };
+
+    ghost view = { λ r. r.presets };
+
+    ghost invariant = { λ r. AreRegions r.presets r.table.now };
+}
+
+impl<'a> RegionsView<'a> {
+    /// The context of a sample and its sign as one number, as `signed_context` gives it, from `half`: what
+    /// `half_context` gives for these parameters and the sample's Rb, Rc and Rd.
+    ///
+    /// Requires Ra and Rc of at most the parameters' `maxval`, and a half of -360 to 360, as `half_context` gives it.
+    /// Allocates nothing and cannot fail.
+    pub fn whole_context(&self, half: i16, a: u16, c: u16) -> i16
+        requires half_low { neg_ℤ (pos 360) ≤ℤ half }
+        requires half_high { half ≤ℤ pos 360 }
+        requires left { a ≤ self.now.maxval }
+        requires above_left { c ≤ self.now.maxval }
+        ensures value { (b d : ℕ) → half ≡ half_context self.now b c d
+            → result ≡ signed_context self.now (record { a = a; b = b; c = c; d = d }) }
+        ensures run { (b d : ℕ) → half ≡ half_context self.now b c d
+            → is_zero result ≡ is_run (record { a = a; b = b; c = c; d = d }) }
+        ensures low { neg_ℤ (pos 364) ≤ℤ result }
+        ensures high { result ≤ℤ pos 364 }
+    {
+        half + self.region(c, a)
+    }
+
     /// The region of the gradient `over` - `other`, both at most MAXVAL.
     fn region(&self, over: u16, other: u16) -> i16
         requires over { over ≤ self.now.maxval }
@@ -57,11 +110,7 @@ impl Regions {
     }
 }
 
-/// The context of a sample and its sign as one number, as `signed_context` gives it, from `half`: what `half_context`
-/// gives for these parameters and the sample's Rb, Rc and Rd.
-///
-/// Requires Ra and Rc of at most the parameters' `maxval`, and a half of -360 to 360, as `half_context` gives it.
-/// Allocates nothing and cannot fail.
+/// As `RegionsView::whole_context`, by the table itself.
 pub fn whole_context(regions: &Regions, half: i16, a: u16, c: u16) -> i16
     requires half_low { neg_ℤ (pos 360) ≤ℤ half }
     requires half_high { half ≤ℤ pos 360 }
@@ -74,7 +123,7 @@ pub fn whole_context(regions: &Regions, half: i16, a: u16, c: u16) -> i16
     ensures low { neg_ℤ (pos 364) ≤ℤ result }
     ensures high { result ≤ℤ pos 364 }
 {
-    half + regions.region(c, a)
+    regions.view().whole_context(half, a, c)
 }
 
 /// Fills the table with the region of each difference.

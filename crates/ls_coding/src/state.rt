@@ -127,7 +127,7 @@ impl State {
     /// Requires of the neighbours and of `interrupted` what `code_regular` does. Changes nothing and cannot fail.
     ///
     /// This is the simple form, for one sample by itself. The decoder computes context and median in two parts each and
-    /// uses `plan_regular_at`.
+    /// uses `plan_regular_with`.
     pub fn plan_regular(&self, neighbours: &Neighbours) -> Plan
         requires samples { AreSamples self.now.parameters.maxval neighbours.now }
         requires regular { is_run neighbours.now ≡ false }
@@ -157,8 +157,32 @@ impl State {
         ensures golomb { IsGolomb result.k result.glimit (qbpp_of self.now.parameters.maxval) }
         ensures word { (sample : ℕ) → IsReadBy result (regular_word_in self.now neighbours.now sample) }
     {
+        self.plan_regular_with(self.counters.presets, context, middle, neighbours)
+    }
+
+    /// As `plan_regular_at`, for a caller that holds this scan's presets by value, so that they stay in registers:
+    /// `presets` is what `presets` gives. Requires the same otherwise.
+    pub fn plan_regular_with(
+        &self,
+        presets: Presets,
+        context: i16,
+        middle: u32,
+        neighbours: &Neighbours,
+    ) -> Plan
+        requires presets { presets ≡ self.now.parameters }
+        requires context { context ≡ signed_context self.now.parameters neighbours.now }
+        requires middle { middle ≡ median neighbours.now }
+        requires samples { AreSamples self.now.parameters.maxval neighbours.now }
+        requires regular { is_run neighbours.now ≡ false }
+        requires uninterrupted { self.now.interrupted ≡ false }
+        ensures plan { result ≡ regular_plan self.now neighbours.now }
+        ensures neighbours { result.neighbours ≡ neighbours.now }
+        ensures own { result ≡ regular_plan self.now result.neighbours }
+        ensures golomb { IsGolomb result.k result.glimit (qbpp_of self.now.parameters.maxval) }
+        ensures word { (sample : ℕ) → IsReadBy result (regular_word_in self.now neighbours.now sample) }
+    {
         self.counters
-            .plan(context_of_signed(context), middle, neighbours)
+            .plan(presets, context_of_signed(context), middle, neighbours)
     }
 
     /// Decodes a sample of regular mode: returns the one sample whose word has this value, MErrval, and leaves the
@@ -202,8 +226,31 @@ impl State {
         ensures state { self.new ≡ regular_after self.old (context_in self.old plan.neighbours).number
             (regular_error_in self.old plan.neighbours result) }
     {
-        self.counters
-            .accept_sure(plan.number, plan.negative, plan.prediction, plan.k, value)
+        self.accept_sure_with(self.counters.presets, plan, value)
+    }
+
+    /// As `accept_sure`, for a caller that holds this scan's presets by value, so that they stay in registers:
+    /// `presets` is what `presets` gives. Requires the same otherwise.
+    #[inline(always)]
+    pub fn accept_sure_with(&mut self, presets: Presets, plan: Plan, value: u32) -> u16
+        requires presets { presets ≡ self.old.parameters }
+        requires plan { plan ≡ regular_plan self.old plan.neighbours }
+        requires samples { AreSamples self.old.parameters.maxval plan.neighbours }
+        requires value { value / 2 ^ plan.k < sure_zeros self.old.parameters plan.k }
+        requires uninterrupted { self.old.interrupted ≡ false }
+        ensures sample { IsTheSample (λ one. one ≤ self.old.parameters.maxval)
+            (λ one. (regular_word_in self.old plan.neighbours one).value) value result }
+        ensures state { self.new ≡ regular_after self.old (context_in self.old plan.neighbours).number
+            (regular_error_in self.old plan.neighbours result) }
+    {
+        self.counters.accept_sure(
+            presets,
+            plan.number,
+            plan.negative,
+            plan.prediction,
+            plan.k,
+            value,
+        )
     }
 
     /// Codes a run of `count` samples that are equal to Ra (A.7.1): up to the line's end (`eol`), or up to a sample

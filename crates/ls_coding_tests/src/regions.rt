@@ -19,9 +19,11 @@ const CONTEXTS: &[([u16; 4], i16)] = &[
 fn check_contexts(rt: &impl Abort, alloc: Global) -> Result<(), AllocError> {
     let presets = Presets::default_of(255);
     let regions = Regions::new(alloc, &presets)?;
+    let view = regions.view();
     for ([a, b, c, d], want) in CONTEXTS {
         let half = half_context(&presets, *b, *c, *d);
         check_equal(rt, &whole_context(&regions, half, *a, *c), want);
+        check_equal(rt, &view.whole_context(half, *a, *c), want);
     }
     Ok(())
 }

@@ -124,12 +124,11 @@ fn a_value_that_no_sample_of_regular_mode_has_is_refused(rt: HostRuntime) {
 
 #[test]
 fn a_value_of_few_zeros_is_accepted_as_any(rt: HostRuntime) {
-    let mut state = fresh();
-    check_sample(
-        &rt,
-        Ok(accept_sure(&rt, &mut state, (5, 0, 0, 0), 0)),
-        Ok(5),
-    );
+    for by_value in [false, true] {
+        let mut state = fresh();
+        let got = accept_sure(&rt, &mut state, (5, 0, 0, 0), 0, by_value);
+        check_sample(&rt, Ok(got), Ok(5));
+    }
 }
 
 /// maxval, k, and the bound on the zeros of a word that is sure.

@@ -56,15 +56,17 @@ recording_asked words tuning files preset text reads named few (Some (request.Re
     few = subst (λ (fs : List (Bor (List ℕ))). length fs ≤ MOST_FILMS) (sym has.2) few;
   },
 )
-recording_asked words tuning files preset text reads named few (Some (request.List file)) has = absurd has
+recording_asked words tuning files preset text reads named few (Some (request.List file json)) has = absurd has
 recording_asked words tuning files preset text reads named few (Some (request.Code file index)) has = absurd has
 recording_asked words tuning files preset text reads named few (Some (request.Play file frames workers)) has = absurd has
 recording_asked words tuning files preset text reads named few (Some (request.Listed file index frames)) has = absurd has
 recording_asked words tuning files preset text reads named few (Some (request.PlayInto recordings into frames workers)) has = absurd has
 recording_asked words tuning files preset text reads named few (Some (request.Salvage file index)) has = absurd has
-recording_asked words tuning files preset text reads named few (Some (request.Index file sums)) has = absurd has
+recording_asked words tuning files preset text reads named few (Some (request.Index file sums json)) has = absurd has
 recording_asked words tuning files preset text reads named few (Some (request.IndexBeside recordings sums)) has = absurd has
-recording_asked words tuning files preset text reads named few (Some (request.Check file index workers strict)) has = absurd has
-recording_asked words tuning files preset text reads named few (Some (request.CheckEach recordings beside workers strict)) has = absurd has
+recording_asked words tuning files preset text reads named few (Some (request.Check file index workers strict json)) has = absurd has
+recording_asked words tuning files preset text reads named few (Some (request.CheckPart file index frames workers json)) has = absurd has
+recording_asked words tuning files preset text reads named few (Some (request.CheckEach recordings beside workers strict json)) has = absurd has
 recording_asked words tuning files preset text reads named few (Some (request.Verify pairs workers strict)) has = absurd has
+recording_asked words tuning files preset text reads named few (Some (request.VerifyPart film file frames)) has = absurd has
 recording_asked words tuning files preset text reads named few (Some (request.Replay sources capacity file)) has = absurd has

@@ -2,12 +2,13 @@
 use crate::limits::{CAPACITY, COUNT, QUEUE, SECONDS, SOURCES, SYNC, WINDOW, WORKERS};
 use crate::texts::{
     CAPACITY_HELP, CHECK_BESIDE_HELP, CHECK_HELP, CHECKERS_HELP, CODE_HELP, COUNT_HELP, FILM_HELP,
-    FILMS_HELP, FILMS_INTO_HELP, FRAMES_HELP, INDEX_BESIDE_HELP, INDEX_FILE_HELP, INDEX_HELP,
-    INDEX_OF_CODE_HELP, INDEX_OF_RECORDING_HELP, INDEX_OF_SALVAGE_HELP, INTO_HELP, KEEP_OPEN_HELP,
-    LIST_HELP, NO_SUMS_HELP, PLAY_HELP, PLAYERS_HELP, PRESET_HELP, PROGRESS_HELP, QUEUE_HELP,
-    REASONS_HELP, RECORD_HELP, RECORDING_OF_FILM_HELP, RECORDINGS_HELP, REPLACE_HELP, REPLAY_HELP,
-    REPORT_HELP, SALVAGE_HELP, SECONDS_HELP, SOURCES_HELP, STEPS_HELP, STRICT_HELP, SYNC_HELP,
-    TIMES_HELP, VERIFIERS_HELP, VERIFY_HELP, WINDOW_HELP, WORKERS_HELP,
+    FILMS_HELP, FILMS_INTO_HELP, FRAMES_HELP, FRAMES_OF_CHECK_HELP, FRAMES_OF_VERIFY_HELP,
+    INDEX_BESIDE_HELP, INDEX_FILE_HELP, INDEX_HELP, INDEX_OF_CODE_HELP, INDEX_OF_RECORDING_HELP,
+    INDEX_OF_SALVAGE_HELP, INTO_HELP, JSON_HELP, JSON_OF_CHECK_HELP, KEEP_OPEN_HELP, LIST_HELP,
+    NO_SUMS_HELP, PLAY_HELP, PLAYERS_HELP, PRESET_HELP, PROGRESS_HELP, QUEUE_HELP, REASONS_HELP,
+    RECORD_HELP, RECORDING_OF_FILM_HELP, RECORDINGS_HELP, REPLACE_HELP, REPLAY_HELP, REPORT_HELP,
+    SALVAGE_HELP, SECONDS_HELP, SOURCES_HELP, STEPS_HELP, STRICT_HELP, SYNC_HELP, TIMES_HELP,
+    VERIFIERS_HELP, VERIFY_HELP, WINDOW_HELP, WORKERS_HELP,
 };
 use clap::builder::ValueParser;
 use clap::{Arg, ArgAction, Command};
@@ -97,7 +98,11 @@ const COMMANDS: [Entry; 8] = [
         name: "list",
         about: "Lists the frames of a film",
         help: LIST_HELP,
-        arguments: &[REASONS, Argument::File("FILE", FILM_HELP)],
+        arguments: &[
+            REASONS,
+            Argument::File("FILE", FILM_HELP),
+            Argument::Flag("json", JSON_HELP),
+        ],
     },
     Entry {
         name: "index",
@@ -108,6 +113,7 @@ const COMMANDS: [Entry; 8] = [
             Argument::Files("FILE", RECORDINGS_HELP),
             Argument::Flag("beside", INDEX_BESIDE_HELP),
             Argument::Flag("no-sums", NO_SUMS_HELP),
+            Argument::Flag("json", JSON_HELP),
         ],
     },
     Entry {
@@ -119,8 +125,10 @@ const COMMANDS: [Entry; 8] = [
             Argument::Files("FILE", RECORDINGS_HELP),
             Argument::Text("index", "INDEX", INDEX_FILE_HELP),
             Argument::Flag("beside", CHECK_BESIDE_HELP),
+            Argument::Text("frames", "A..B", FRAMES_OF_CHECK_HELP),
             Argument::Number("workers", WORKERS, "1", CHECKERS_HELP),
             Argument::Flag("strict", STRICT_HELP),
+            Argument::Flag("json", JSON_OF_CHECK_HELP),
         ],
     },
     Entry {
@@ -129,6 +137,7 @@ const COMMANDS: [Entry; 8] = [
         help: VERIFY_HELP,
         arguments: &[
             REASONS,
+            Argument::Text("frames", "A..B", FRAMES_OF_VERIFY_HELP),
             Argument::Number("workers", WORKERS, "1", VERIFIERS_HELP),
             Argument::Flag("strict", STRICT_HELP),
             Argument::File("FILM", FILM_HELP),

@@ -25,8 +25,8 @@ mod limits;
 mod preset;
 mod texts;
 
-ghost use Rattle.std.specs.Prelude.{◌≡◌, ◌^◌, ◌∷◌, [], true, None, IfOk, IfSome, codes, map, string_bytes};
-ghost use Rattle.ls_command.specs.View.Matched.{Asks, AsksFrames, AsksToRecord, AsksWorkers, AreMatched, ArePairsOf, MakesRequest, ReadsNumber, WordsMakeRequest, files_in, texts_in_turn, texts_of};
+ghost use Rattle.std.specs.Prelude.{◌≡◌, ◌^◌, ◌∷◌, [], true, None, Some, IfOk, IfSome, codes, map, string_bytes};
+ghost use Rattle.ls_command.specs.View.Matched.{Asks, AsksFrames, AsksToRecord, AsksWorkers, AreMatched, ArePairsOf, HasText, MakesRequest, ReadsNumber, WordsMakeRequest, files_in, texts_in_turn, texts_of};
 
 use clap::error::ErrorKind;
 use clap::{ArgMatches, Command, Error};
@@ -38,17 +38,20 @@ use ls_frame::Tuning;
 use preset::tuning_of;
 use std::alloc::{AllocError, Global};
 use texts::{
-    BAD_PRESET, BEGINNING, BESIDE_WANTED, CHECKERS_WANTED, COMMAND_WANTED, FRAMES_OR_SALVAGE,
-    FRAMES_WANTED, INDEX_OF_ONE, INDEX_OR_BESIDE, INTO_OR_INDEX, INTO_OR_SALVAGE, INTO_WANTED,
-    PAIRS_WANTED, PLAYERS_WANTED, SALVAGE_WANTED, TOO_MANY_FILMS,
+    BAD_PRESET, BEGINNING, BESIDE_WANTED, CHECKERS_WANTED, COMMAND_WANTED, FRAMES_OF_ONE,
+    FRAMES_OR_SALVAGE, FRAMES_OR_STRICT, FRAMES_WANTED, INDEX_OF_ONE, INDEX_OR_BESIDE,
+    INDEX_WANTED, INTO_OR_INDEX, INTO_OR_SALVAGE, INTO_WANTED, JSON_OR_BESIDE, PAIRS_WANTED,
+    PLAYERS_WANTED, SALVAGE_WANTED, TOO_MANY_FILMS, VERIFIERS_WANTED,
 };
 
-/// A request, one variant for each command; but `play` has four, and `index` and `check` two each.
+/// A request, one variant for each command; but `play` has four, `check` three, and `index` and `verify` two each.
 #[derive(Drop)]
 pub enum Request<'a> {
     /// List the frames of a film.
     List {
         file: &'a str,
+        /// Whether an object of JSON is written for each line.
+        json: bool,
     },
     /// Code the frames of a film, and write their index if a file is named for it.
     Code {
@@ -87,6 +90,8 @@ pub enum Request<'a> {
     Index {
         file: &'a str,
         sums: bool,
+        /// Whether an object of JSON is written for each line.
+        json: bool,
     },
     /// Write an index of each recording to a file beside it, with sums or without.
     IndexBeside {
@@ -101,6 +106,18 @@ pub enum Request<'a> {
         workers: u8,
         /// Whether its codestreams must be strict, too.
         strict: bool,
+        /// Whether an object of JSON is written for each line.
+        json: bool,
+    },
+    /// Look for damage in some codestreams of a recording, which are found by its index.
+    CheckPart {
+        file: &'a str,
+        index: &'a str,
+        frames: Frames,
+        /// The number of workers that decode.
+        workers: u8,
+        /// Whether an object of JSON is written for each line.
+        json: bool,
     },
     /// Look for damage in each of several recordings; or in one, by the index beside it.
     CheckEach {
@@ -111,6 +128,8 @@ pub enum Request<'a> {
         workers: u8,
         /// Whether their codestreams must be strict, too.
         strict: bool,
+        /// Whether an object of JSON is written for each line.
+        json: bool,
     },
     /// Compare recordings with their films.
     Verify {
@@ -120,6 +139,12 @@ pub enum Request<'a> {
         workers: u8,
         /// Whether the codestreams of the recordings must be strict, too.
         strict: bool,
+    },
+    /// Compare some frames of a recording with those of its film.
+    VerifyPart {
+        film: &'a str,
+        file: &'a str,
+        frames: Frames,
     },
     /// Record films, side by side.
     Record(RecordRequest<'a>),
@@ -316,6 +341,7 @@ fn list_request<'a>(words: &ArgMatches<'a>) -> Option<Request<'a>>
 {
     Some(Request::List {
         file: words.get_str("FILE")?,
+        json: words.get_flag("json"),
     })
 }
 
@@ -418,13 +444,27 @@ fn index_request<'a>(alloc: Global, words: &ArgMatches<'a>) -> Result<Option<Req
     ensures { IfOk result (λ request. IfSome request (Asks words.now (codes "index"))) }
 {
     let files = files_of(alloc, words)?;
+    match read_index(words, files) {
+        Ok(request) => Ok(Some(request)),
+        Err(message) => Err(misuse_of(alloc, "index", message)),
+    }
+}
+
+/// The same of the recordings that are named, or the message that says what is wrong.
+fn read_index<'a>(words: &ArgMatches<'a>, files: Vec<&'a str>) -> Result<Request<'a>, &'static str>
+    ensures { texts_of files.entry.items ≡ files_in words.now → IfOk result (Asks words.now (codes "index")) }
+{
     let sums = !words.get_flag("no-sums");
+    let json = words.get_flag("json");
     if words.get_flag("beside") {
-        return Ok(Some(Request::IndexBeside { files, sums }));
+        if json {
+            return Err(JSON_OR_BESIDE);
+        }
+        return Ok(Request::IndexBeside { files, sums });
     }
     match only(&files) {
-        Some(file) => Ok(Some(Request::Index { file, sums })),
-        None => Err(misuse_of(alloc, "index", BESIDE_WANTED)),
+        Some(file) => Ok(Request::Index { file, sums, json }),
+        None => Err(BESIDE_WANTED),
     }
 }
 
@@ -453,12 +493,32 @@ fn read_check<'a>(words: &ArgMatches<'a>, files: Vec<&'a str>) -> Result<Request
         return Err(CHECKERS_WANTED);
     }
     let strict = words.get_flag("strict");
+    let json = words.get_flag("json");
+    if let Some(frames) = frames_of(words, false)? {
+        let Some(index) = index else {
+            return Err(INDEX_WANTED);
+        };
+        if strict {
+            return Err(FRAMES_OR_STRICT);
+        }
+        return match only(&files) {
+            Some(file) => Ok(Request::CheckPart {
+                file,
+                index,
+                frames,
+                workers,
+                json,
+            }),
+            None => Err(FRAMES_OF_ONE),
+        };
+    }
     match only(&files) {
         Some(file) if !beside => Ok(Request::Check {
             file,
             index,
             workers,
             strict,
+            json,
         }),
         _ if index.is_some() => Err(INDEX_OF_ONE),
         _ => Ok(Request::CheckEach {
@@ -466,6 +526,7 @@ fn read_check<'a>(words: &ArgMatches<'a>, files: Vec<&'a str>) -> Result<Request
             beside,
             workers,
             strict,
+            json,
         }),
     }
 }
@@ -485,9 +546,39 @@ fn verify_request<'a>(alloc: Global, words: &ArgMatches<'a>) -> Result<Option<Re
         return Ok(None);
     };
     let files = files_of(alloc, words)?;
-    match pairs_of(alloc, film, &files)? {
-        Some(pairs) => Ok(verify_pairs_request(words, pairs)),
-        None => Err(misuse_of(alloc, "verify", PAIRS_WANTED)),
+    match frames_of(words, false) {
+        Ok(Some(frames)) => match read_verify_part(words, film, &files, frames) {
+            Ok(request) => Ok(Some(request)),
+            Err(message) => Err(misuse_of(alloc, "verify", message)),
+        },
+        Ok(None) => match pairs_of(alloc, film, &files)? {
+            Some(pairs) => Ok(verify_pairs_request(words, pairs)),
+            None => Err(misuse_of(alloc, "verify", PAIRS_WANTED)),
+        },
+        Err(message) => Err(misuse_of(alloc, "verify", message)),
+    }
+}
+
+/// The request of `verify` for these frames of a film and the recordings that are named, or the message that says what is
+/// wrong.
+fn read_verify_part<'a>(
+    words: &ArgMatches<'a>,
+    film: &'a str,
+    files: &[&'a str],
+    frames: Frames,
+) -> Result<Request<'a>, &'static str>
+    ensures { HasText words.now (codes "FILM") (Some film.now) → texts_of files.now ≡ files_in words.now → AsksFrames words.now (Some frames)
+        → IfOk result (Asks words.now (codes "verify")) }
+{
+    if workers_of(words) > 1 {
+        return Err(VERIFIERS_WANTED);
+    }
+    if words.get_flag("strict") {
+        return Err(FRAMES_OR_STRICT);
+    }
+    match only(files) {
+        Some(file) => Ok(Request::VerifyPart { film, file, frames }),
+        None => Err(FRAMES_OF_ONE),
     }
 }
 
@@ -496,7 +587,7 @@ fn verify_pairs_request<'a>(
     words: &ArgMatches<'a>,
     pairs: Vec<(&'a str, &'a str)>,
 ) -> Option<Request<'a>>
-    ensures { ArePairsOf words.now pairs.entry.items → IfSome result (Asks words.now (codes "verify")) }
+    ensures { ArePairsOf words.now pairs.entry.items → AsksFrames words.now None → IfSome result (Asks words.now (codes "verify")) }
 {
     Some(Request::Verify {
         pairs,

@@ -31,6 +31,10 @@ The eleven columns of a line, one blank between:
   RESET    samples until a context's counters are halved
   LIMIT    the most bits of a sample's code word";
 
+pub const JSON_HELP: &str = "\
+Write an object of JSON for each line instead, on a line of its own: its members are the columns by these names, but
+`frame` is the number, and `sha256` the sum";
+
 pub const CODE_HELP: &str = "\
 Writes a codestream of JPEG-LS (ITU-T T.87) for each frame of FILE to standard output.
 
@@ -173,6 +177,23 @@ pub const CHECK_BESIDE_HELP: &str = "\
 Check each FILE by the index beside it, FILE.index, as `record --index` and `index --beside` write it; a FILE without
 one is at fault";
 
+pub const FRAMES_OF_CHECK_HELP: &str = "\
+With --index: the codestreams to check, as for `play`: A..B, A, A.. or ..B. Only their lines and bytes are read, whatever
+comes after them in FILE, so that FILE may still be written. A.. ends with INDEX, or before a last line that isn't written
+whole; if INDEX has just A lines, nothing is checked, and the status is 0";
+
+pub const INDEX_WANTED: &str = "--frames goes only with --index";
+
+pub const FRAMES_OR_STRICT: &str = "--frames and --strict don't go together";
+
+pub const JSON_OF_CHECK_HELP: &str = "\
+Write an object of JSON for each line instead, on a line of its own:
+  {\"file\": FILE, \"frame\": N, \"fault\": FAULT, \"bytes\": B, \"offset\": O}
+where FAULT is `moved` and `\"found\": P` follows if the codestream is at P, not O; and at the end of each FILE
+  {\"file\": FILE, \"frames\": N, \"damaged\": M, \"moved\": K, \"more_bytes\": true or false}";
+
+pub const JSON_OR_BESIDE: &str = "--json and --beside don't go together";
+
 pub const INDEX_OR_BESIDE: &str = "--index and --beside don't go together";
 
 pub const INDEX_OF_ONE: &str = "--index goes only with one FILE; --beside goes with several";
@@ -200,6 +221,14 @@ and a line on standard error reports the first frame that differs, is missing or
 Further pairs FILM FILE may follow. A line on standard output then reports each pair that is the same
   FILE: the same
 and the status is 0 only if all are. A pair that isn't keeps none of the others from being compared.";
+
+pub const FRAMES_OF_VERIFY_HELP: &str = "\
+The frames to compare, as for `play`: A..B, A, A.. or ..B. Those before A are passed over, the recording's by their
+markers, and none after B is read. A.. compares up to the end of both, where both may have just A frames";
+
+pub const FRAMES_OF_ONE: &str = "--frames goes only with one FILE";
+
+pub const VERIFIERS_WANTED: &str = "--workers and --frames don't go together";
 
 pub const PAIRS_WANTED: &str = "each FILM goes with a FILE: the last FILM has none";
 
@@ -249,7 +278,7 @@ disk";
 
 pub const PROGRESS_HELP: &str = "\
 Report on standard error how far each film is, twice a second, and immediately when one stops;
-on a terminal this is always reported, in one line";
+on a terminal this is always reported, in its place";
 
 pub const REPORT_HELP: &str = "\
 The file for a report, created before anything is recorded and written at the end: for each film its frames, bytes,

@@ -1,4 +1,4 @@
-//! Standard error: the program's messages, and the progress line on a terminal.
+//! Standard error: the program's messages, and progress on a terminal.
 use crate::shown::Shown;
 use ls_frame::{Failed, Outlet, write_bytes};
 use std::alloc::{AllocError, Global};
@@ -8,6 +8,12 @@ use std::io;
 /// The number of characters in a progress line at a terminal's usual width: one less than that, since some terminals
 /// go to the next line after the last.
 pub const COLUMNS: usize = 79;
+
+/// The least number of a terminal's lines with which progress is shown in several, and how many of its lines are kept for
+/// messages above them.
+const LEAST_HEIGHT: usize = 24;
+
+const KEPT: usize = 2;
 
 /// The hint for a file `-` that can't be opened.
 const STANDARD_INPUT: &str = "; - is a file's name, and standard input is /dev/stdin";
@@ -21,11 +27,23 @@ pub struct Console<E> {
     is_terminal: bool,
     /// The number of characters in a progress line.
     columns: usize,
+    /// The number of the terminal's lines; 0 if it isn't known.
+    height: usize,
     /// Whether reasons are on: the program then says why a device failed, what a file seems to be, how one was
     /// renamed.
     reasons: bool,
-    /// Whether a progress line is shown.
-    is_shown: bool,
+    /// The progress that is shown.
+    shown: Progress,
+}
+
+/// What is shown of progress.
+#[derive(Clone, Copy)]
+enum Progress {
+    Nothing,
+    /// A line, which the cursor is in.
+    Line,
+    /// Several lines, at whose beginning the cursor is.
+    Lines,
 }
 
 impl<E: Outlet> Console<E> {
@@ -36,9 +54,15 @@ impl<E: Outlet> Console<E> {
             errors,
             is_terminal,
             columns,
+            height: 0,
             reasons: is_terminal,
-            is_shown: false,
+            shown: Progress::Nothing,
         }
+    }
+
+    /// Takes the number of the terminal's lines.
+    pub fn set_height(&mut self, height: usize) {
+        self.height = height;
     }
 
     /// Turns reasons on, if `reasons`. On a terminal they are on in any case.
@@ -64,6 +88,17 @@ impl<E: Outlet> Console<E> {
         self.columns
     }
 
+    /// The number of characters in the progress line of this number of films; `None` if there is a line for each, since
+    /// the terminal is high enough.
+    pub fn columns_of_all(&self, films: usize) -> Option<usize> {
+        let is_high = LEAST_HEIGHT <= self.height && films.saturating_add(KEPT) <= self.height;
+        if films > 1 && is_high {
+            None
+        } else {
+            Some(self.columns)
+        }
+    }
+
     /// Writes a line, or says that there is no memory for it.
     pub fn say<D: Display + Drop>(&mut self, text: D) {
         let line = format!(in self.alloc; "jlsrec: {text}\n");
@@ -73,7 +108,7 @@ impl<E: Outlet> Console<E> {
         }
     }
 
-    /// Clears the progress line, then writes a text as it is. A failure is ignored.
+    /// Clears the progress that is shown, then writes a text as it is. A failure is ignored.
     pub fn write(&mut self, text: &[u8]) {
         self.clear();
         let _refused = write_bytes(&mut self.errors, text);
@@ -85,19 +120,31 @@ impl<E: Outlet> Console<E> {
         if let Ok(cut) = cut {
             let filled = cut.as_str().left().width(self.columns);
             if let Ok(text) = format!(in self.alloc; "\r{filled}") {
-                self.is_shown = true;
+                self.shown = Progress::Line;
                 let _refused = write_bytes(&mut self.errors, text.as_bytes());
             }
         }
     }
 
-    /// Clears the progress line, if one is shown.
+    /// Shows progress in several lines, none longer than the number of columns, over those before. For a terminal only,
+    /// which has more lines.
+    pub fn show_lines(&mut self, lines: &[String]) {
+        if let Ok(text) = drawn(self.alloc, lines) {
+            self.shown = Progress::Lines;
+            let _refused = write_bytes(&mut self.errors, text.as_bytes());
+        }
+    }
+
+    /// Clears the progress that is shown, if any is.
     pub fn clear(&mut self) {
-        if self.is_shown {
-            self.is_shown = false;
-            if let Ok(text) = cleared(self.alloc, self.columns) {
-                let _refused = write_bytes(&mut self.errors, text.as_bytes());
-            }
+        let columns = match self.shown {
+            Progress::Nothing => return,
+            Progress::Line => Some(self.columns),
+            Progress::Lines => None,
+        };
+        self.shown = Progress::Nothing;
+        if let Ok(text) = cleared(self.alloc, columns) {
+            let _refused = write_bytes(&mut self.errors, text.as_bytes());
         }
     }
 
@@ -169,10 +216,35 @@ impl<E: Outlet> Console<E> {
     }
 }
 
-/// The text that clears a progress line of `columns` characters and goes back to its start.
-pub fn cleared(alloc: Global, columns: usize) -> Result<String, AllocError> {
-    let blanks = "".left().width(columns);
-    format!(in alloc; "\r{blanks}\r")
+/// Erases from the cursor to the end of a terminal (ED of ECMA-48).
+const ERASE: &str = "\x1b[J";
+
+/// The text that clears a progress line of this number of columns and goes back to its start; or, if there are several
+/// lines, clears all from where the cursor is.
+pub fn cleared(alloc: Global, columns: Option<usize>) -> Result<String, AllocError> {
+    match columns {
+        Some(columns) => {
+            let blanks = "".left().width(columns);
+            format!(in alloc; "\r{blanks}\r")
+        }
+        None => format!(in alloc; "\r{ERASE}"),
+    }
+}
+
+/// The text that shows lines in the place of those at whose beginning the cursor is, and goes back there (CUU of ECMA-48).
+/// So what another thread writes goes over the first line, and the next lines are shown below it.
+fn drawn(alloc: Global, lines: &[String]) -> Result<String, AllocError> {
+    let mut text = cleared(alloc, None)?;
+    for (number, line) in lines.iter().enumerate() {
+        if number > 0 {
+            text.push_str("\r\n")?;
+        }
+        text.push_str(line)?;
+    }
+    let up = lines.len().saturating_sub(1);
+    let back = format!(in alloc; "\r\x1b[{up}A")?;
+    text.push_str(&back)?;
+    Ok(text)
 }
 
 /// The system's text for a failure, with its number.

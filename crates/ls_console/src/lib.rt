@@ -1,9 +1,10 @@
 //! The program's messages about its files and devices, and the statuses that it exits with.
 //!
-//! What it hands on: a `Console` writes messages on standard error, and a progress line on a terminal. A `Program` is
+//! What it hands on: a `Console` writes messages on standard error, and progress on a terminal. A `Program` is
 //! what each command works with: its runtime, which is a `Host`, the opener of its files, standard output and the
 //! console. A `Reader` reads a film or a recording, and the `Cause` of a fault decides what more is said of it. `DONE`,
-//! `FAILED` and `USAGE` are the statuses; `Shown` makes a file name printable; `Lines` is a writer with a buffer.
+//! `FAILED` and `USAGE` are the statuses; `Shown` makes a file name printable; `Lines` is a writer with a buffer, and
+//! `Objects` one that makes lines objects of JSON.
 //!
 //! ```
 //! use ls_console::{Console, DONE, Host, open_film};
@@ -20,14 +21,15 @@
 //! }
 //! ```
 //!
-//! In reading order: `shown` (file names and other words), `console` (standard error), `output` (standard output, and
-//! the statuses), `program` (what each command works with), `reader` (reads films and recordings, and finds the cause
+//! In reading order: `shown` (file names and other words), `json` (texts and lines as JSON), `console` (standard error),
+//! `output` (standard output, and the statuses), `program` (what each command works with), `reader` (reads films and recordings, and finds the cause
 //! of a fault), `written` (makes a file, and says how one that was written ended). The contracts say which status
 //! each call returns, what is written to standard output with the status `DONE`, and what a reader has left
 //! (`specs/View/Readers.antt`). What is said on standard error, the tests of the whole program show.
 #![tactic(auto)]
 
 mod console;
+mod json;
 mod lines;
 mod output;
 mod program;
@@ -36,6 +38,7 @@ mod shown;
 mod written;
 
 pub use console::{COLUMNS, Console, cleared};
+pub use json::{Column, Objects, Quoted};
 pub use lines::{Lines, line_buffer};
 pub use output::{
     DONE, FAILED, USAGE, finish, finish_lines, misused, no_memory, say_unwritten, write_text,

@@ -1,6 +1,7 @@
 -- How the code's values (readers, writers, faults) are seen as films, and as what is written for these.
 pub mod Ahead
 pub mod Codestreams
+pub mod Coding
 pub mod Engine
 pub mod Given
 pub mod Memory

@@ -50,7 +50,7 @@ pub mod listing;
 pub mod part;
 pub mod playing;
 
-pub use coding::{code_bytes, code_film};
+pub use coding::{code_bytes, code_film, code_film_by};
 pub use faults::{FilmFault, MOST_FRAMES};
 pub use listing::{list_bytes, list_film};
 pub use part::{Part, PartFault, play_part};

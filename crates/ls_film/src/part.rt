@@ -131,8 +131,11 @@ fn show_next<R: Feed, W: Outlet>(
     }
 }
 
-/// Passes over the next `count` codestreams by their markers, or over all if there are fewer.
-fn pass_streams<R: Feed>(alloc: Global, reader: &mut R, count: u64) -> Result<Run, PlayFault>
+/// Passes over the next `count` codestreams by their markers, or over all if there are fewer. Returns how many these were,
+/// and whether the reader was seen to be at its end.
+///
+/// Fails as `play_part` does before its part: if no end of a codestream is found, a read fails (`Io(0)`), or an allocation.
+pub fn pass_streams<R: Feed>(alloc: Global, reader: &mut R, count: u64) -> Result<Run, PlayFault>
     ensures passed { IfOk result (λ run. GavePassed (R.remaining reader.old) (R.remaining reader.new) run.frames) }
     ensures most { IfOk result (λ run. (run.frames ≤ count) × (run.ended ≡ false → run.frames ≡ count)) }
     ensures lacks { IfOk result (λ run. IsTrue run.ended → run.frames < count) }

@@ -1,6 +1,6 @@
 //! What the engines write of films, valid and invalid, and what they do when a read or a write fails.
 use crate::testing::{Ending, Outcome, check, check_ending, ending};
-use ls_film::{FilmFault, code_bytes, code_film, list_bytes, list_film};
+use ls_film::{FilmFault, code_bytes, code_film, code_film_by, list_bytes, list_film};
 use ls_frame::{Counted, Feed, NetpbmFault};
 use ls_testing::films::{
     FILM, FILM_CODESTREAMS, FILM_LINES, FIRST_CODESTREAM, FIRST_LINE, TWO_CODESTREAMS, TWO_IMAGES,
@@ -9,27 +9,37 @@ use ls_testing::films::{
 use ls_testing::{Memory, Mishap, Pieces, Sink};
 use std::alloc::Global;
 use std::process::Abort;
+use std::thread::Threads;
 
-/// An engine, which writes a chunk for each frame of a film: a line, or a codestream.
+/// An engine, which writes a chunk for each frame of a film: a line, or a codestream, also by several threads.
 #[derive(Clone, Copy)]
 enum Engine {
     List,
     Code,
+    CodeBy,
 }
 
 /// Runs an engine on a film in memory.
-fn run_on_bytes(engine: Engine, alloc: Global, film: &[u8], writer: Sink) -> Ending<FilmFault> {
+fn run_on_bytes(
+    rt: &impl Threads,
+    engine: Engine,
+    alloc: Global,
+    film: &[u8],
+    writer: Sink,
+) -> Ending<FilmFault> {
     let mut rest = film;
     let mut writer = Counted::new(writer);
     let result = match engine {
         Engine::List => list_film(alloc, &mut rest, &mut writer),
         Engine::Code => code_film(alloc, &mut rest, &mut writer),
+        Engine::CodeBy => code_film_by(rt, alloc, &mut rest, &mut writer),
     };
     ending(result, 0, writer)
 }
 
 /// Runs an engine on a film that is read in chunks.
 fn run_on_chunks(
+    rt: &impl Threads,
     engine: Engine,
     alloc: Global,
     reader: Pieces<'_>,
@@ -40,6 +50,7 @@ fn run_on_chunks(
     let result = match engine {
         Engine::List => list_film(alloc, &mut reader, &mut writer),
         Engine::Code => code_film(alloc, &mut reader, &mut writer),
+        Engine::CodeBy => code_film_by(rt, alloc, &mut reader, &mut writer),
     };
     ending(result, Feed::failures(&reader), writer)
 }
@@ -48,7 +59,7 @@ fn run_on_chunks(
 fn mark_of(engine: Engine) -> &'static [u8] {
     match engine {
         Engine::List => b"\n",
-        Engine::Code => b"\xff\xd9",
+        Engine::Code | Engine::CodeBy => b"\xff\xd9",
     }
 }
 
@@ -91,7 +102,7 @@ type Film<'a> = (&'a str, &'a [u8], Result<u64, FilmFault>, Texts<'a>);
 /// Checks an engine on a film in memory, and on one that is read in chunks of three bytes and written to a writer that
 /// takes two.
 fn check_film(
-    rt: &impl Abort,
+    rt: &(impl Threads + Abort),
     alloc: Global,
     memory: Memory,
     engine: Engine,
@@ -100,23 +111,24 @@ fn check_film(
 ) {
     let (case, bytes, result, _) = *film;
     let want = (result, text, 0, 0);
-    let got = run_on_bytes(engine, alloc, bytes, Sink::new(4096, Mishap::Nothing));
+    let got = run_on_bytes(rt, engine, alloc, bytes, Sink::new(4096, Mishap::Nothing));
     check_ended(rt, memory, engine, case, &got, &want);
     let reader = Pieces::new(bytes, 3, None);
-    let got = run_on_chunks(engine, alloc, reader, Sink::new(2, Mishap::Nothing));
+    let got = run_on_chunks(rt, engine, alloc, reader, Sink::new(2, Mishap::Nothing));
     check_ended(rt, memory, engine, case, &got, &want);
 }
 
-/// Checks both engines on a film.
-fn check_both(rt: &impl Abort, alloc: Global, memory: Memory, film: &Film<'_>) {
+/// Checks each engine on a film.
+fn check_each(rt: &(impl Threads + Abort), alloc: Global, memory: Memory, film: &Film<'_>) {
     let (_, _, _, [lines, codestreams]) = *film;
     check_film(rt, alloc, memory, Engine::List, film, lines);
     check_film(rt, alloc, memory, Engine::Code, film, codestreams);
+    check_film(rt, alloc, memory, Engine::CodeBy, film, codestreams);
 }
 
-fn check_films(rt: &impl Abort, alloc: Global, memory: Memory, films: &[Film<'_>]) {
+fn check_films(rt: &(impl Threads + Abort), alloc: Global, memory: Memory, films: &[Film<'_>]) {
     for film in films {
-        check_both(rt, alloc, memory, film);
+        check_each(rt, alloc, memory, film);
     }
 }
 
@@ -235,10 +247,10 @@ const BAD_FILMS: &[Film<'static>] = &[
     ),
 ];
 
-fn check_long_header(rt: &impl Abort, alloc: Global, memory: Memory) {
+fn check_long_header(rt: &(impl Threads + Abort), alloc: Global, memory: Memory) {
     let film = endless_header();
     let ended = Err(FilmFault::Input(0, NetpbmFault::HeaderTooLong));
-    check_both(
+    check_each(
         rt,
         alloc,
         memory,
@@ -260,7 +272,7 @@ fn a_bad_frame_is_named_after_the_chunks_before_it_or_memory_is_refused(rt: Host
 
 /// Checks that a write that goes wrong after `i` bytes of the two images' text ends the engine.
 fn check_failed_write(
-    rt: &impl Abort,
+    rt: &(impl Threads + Abort),
     alloc: Global,
     memory: Memory,
     engine: Engine,
@@ -268,23 +280,30 @@ fn check_failed_write(
     i: usize,
     mishap: Mishap,
 ) {
-    let got = run_on_bytes(engine, alloc, TWO_IMAGES, Sink::new(1, mishap));
+    let got = run_on_bytes(rt, engine, alloc, TWO_IMAGES, Sink::new(1, mishap));
     let before = text.get(..i).unwrap_or(text);
     let want = (Err(FilmFault::Output(i as u64)), before, 0, 1);
     check_ended(rt, memory, engine, "a failed write", &got, &want);
 }
 
 /// Checks this after each number of bytes.
-fn check_writes_of(rt: &impl Abort, alloc: Global, memory: Memory, engine: Engine, text: &[u8]) {
+fn check_writes_of(
+    rt: &(impl Threads + Abort),
+    alloc: Global,
+    memory: Memory,
+    engine: Engine,
+    text: &[u8],
+) {
     for i in 0..text.len() {
         check_failed_write(rt, alloc, memory, engine, text, i, Mishap::Fails(i));
         check_failed_write(rt, alloc, memory, engine, text, i, Mishap::TakesNothing(i));
     }
 }
 
-fn check_failed_writes(rt: &impl Abort, alloc: Global, memory: Memory) {
+fn check_failed_writes(rt: &(impl Threads + Abort), alloc: Global, memory: Memory) {
     check_writes_of(rt, alloc, memory, Engine::List, TWO_LINES);
     check_writes_of(rt, alloc, memory, Engine::Code, TWO_CODESTREAMS);
+    check_writes_of(rt, alloc, memory, Engine::CodeBy, TWO_CODESTREAMS);
 }
 
 #[test]
@@ -299,7 +318,7 @@ fn a_failed_write_ends_the_film_or_memory_is_refused(rt: HostRuntime) {
 
 /// Checks that a read that fails at byte `i` of the two images ends the engine.
 fn check_failed_read(
-    rt: &impl Abort,
+    rt: &(impl Threads + Abort),
     alloc: Global,
     memory: Memory,
     engine: Engine,
@@ -307,7 +326,7 @@ fn check_failed_read(
     i: usize,
 ) {
     let reader = Pieces::new(TWO_IMAGES, 1, Some(i));
-    let got = run_on_chunks(engine, alloc, reader, Sink::new(4096, Mishap::Nothing));
+    let got = run_on_chunks(rt, engine, alloc, reader, Sink::new(4096, Mishap::Nothing));
     let (frame, before) = if i < 12 {
         (0, b"".as_slice())
     } else {
@@ -317,10 +336,11 @@ fn check_failed_read(
     check_ended(rt, memory, engine, "a failed read", &got, &want);
 }
 
-fn check_failed_reads(rt: &impl Abort, alloc: Global, memory: Memory) {
+fn check_failed_reads(rt: &(impl Threads + Abort), alloc: Global, memory: Memory) {
     for i in 0..TWO_IMAGES.len() {
         check_failed_read(rt, alloc, memory, Engine::List, FIRST_LINE, i);
         check_failed_read(rt, alloc, memory, Engine::Code, FIRST_CODESTREAM, i);
+        check_failed_read(rt, alloc, memory, Engine::CodeBy, FIRST_CODESTREAM, i);
     }
 }
 

@@ -21,7 +21,8 @@
 //!     R::File: Locks,
 //!     E: Outlet,
 //! {
-//!     let names = match names_once(rt.alloc(), asked, console.columns()) {
+//!     let columns = console.columns_of_all(asked.files.len());
+//!     let names = match names_once(rt.alloc(), asked, columns) {
 //!         Ok(names) => names,
 //!         Err(refusal) => return Err(refusal.say(console)),
 //!     };

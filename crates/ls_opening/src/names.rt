@@ -26,12 +26,12 @@ pub struct Names<'a> {
     pub notice: String,
 }
 
-/// The names of the films and of the files made for them, for a terminal with progress lines of `columns` characters.
-/// Refused if one is a duplicate.
+/// The names of the films and of the files made for them, for a terminal with progress lines of `columns` characters, or
+/// with a line for each film. Refused if one is a duplicate.
 pub fn names_once<'a>(
     alloc: Global,
     asked: &RecordRequest<'a>,
-    columns: usize,
+    columns: Option<usize>,
 ) -> Result<Vec<Names<'a>>, Refusal<'a>>
     ensures { IfOk result (λ names. AllZip (λ file film. film.file.now ≡ file.now) asked.now.files.items names.items) }
 {
@@ -59,14 +59,14 @@ fn film_names<'a>(
     alloc: Global,
     file: &'a str,
     asked: &RecordRequest<'_>,
-    columns: usize,
+    columns: Option<usize>,
 ) -> Result<Names<'a>, AllocError>
     ensures { IfOk result (λ names. names.file.now ≡ file.now) }
 {
     let recording = recording_name(alloc, file, asked.into)?;
     let index = format!(in alloc; "{recording}{INDEX}")?;
     let times = format!(in alloc; "{recording}{TIMES}")?;
-    // It goes over the progress line that may be shown by then.
+    // It goes over the progress that may be shown by then.
     let (blanks, shown) = (cleared(alloc, columns)?, Shown(file));
     let notice = format!(in alloc; "{blanks}jlsrec: {shown}: opened")?;
     Ok(Names {

@@ -6,10 +6,11 @@ ghost use Rattle.ls_pieces.specs.Orders.{IsOrder, IsCoded, coded};
 use crate::orders::Order;
 use ls_frame::{Frame, Presets};
 use ls_queue::Job;
-use ls_stream::encode_with;
+use ls_stream::{encode_side_by_side, encode_with};
 use std::alloc::{AllocError, Global};
 use std::marker::Model;
 use std::sync::Arc;
+use std::thread::Threads;
 
 /// A coded frame: a job that was done, with the codestream of its order.
 ///
@@ -45,7 +46,30 @@ impl Coded {
     pub fn make(alloc: Global, job: Job<Order>) -> Result<Coded, Uncoded>
         ensures { MatchResult result (λ piece. piece ≡ job) (λ uncoded. (uncoded.source ≡ job.source) × (uncoded.number ≡ job.number)) }
     {
-        match code(alloc, &job.item) {
+        let coded = code(alloc, &job.item);
+        Coded::of(job, coded)
+    }
+
+    /// The same with the scans of a colour frame coded side by side, by two threads more if they can be started.
+    ///
+    /// Of a colour frame it allocates `code_bound` bytes, and for each scan the bound of its data and two lines.
+    pub fn make_side_by_side<R: Threads>(
+        rt: &R,
+        alloc: Global,
+        job: Job<Order>,
+    ) -> Result<Coded, Uncoded>
+        ensures { MatchResult result (λ piece. piece ≡ job) (λ uncoded. (uncoded.source ≡ job.source) × (uncoded.number ≡ job.number)) }
+    {
+        let coded = code_side_by_side(rt, alloc, &job.item);
+        Coded::of(job, coded)
+    }
+
+    /// The piece of a job whose order was coded so.
+    fn of(job: Job<Order>, coded: Result<Vec<u8>, AllocError>) -> Result<Coded, Uncoded>
+        requires { IfOk coded (λ bytes. IsCoded job.item bytes.items) }
+        ensures { MatchResult result (λ piece. piece ≡ job) (λ uncoded. (uncoded.source ≡ job.source) × (uncoded.number ≡ job.number)) }
+    {
+        match coded {
             Ok(bytes) => Ok(Coded { job, bytes }),
             Err(AllocError) => Err(Uncoded {
                 source: job.source,
@@ -105,4 +129,15 @@ fn code(alloc: Global, order: &Order) -> Result<Vec<u8>, AllocError>
     let frame = &**order.frame();
     let presets = order.presets();
     encode_with(alloc, frame, presets)
+}
+
+/// The same with the scans of a colour frame coded side by side.
+fn code_side_by_side<R: Threads>(
+    rt: &R,
+    alloc: Global,
+    order: &Order,
+) -> Result<Vec<u8>, AllocError>
+    ensures { IfOk result (λ bytes. IsCoded order.now bytes.items) }
+{
+    encode_side_by_side(rt, alloc, &**order.frame(), order.presets())
 }

@@ -241,10 +241,10 @@ where
         Command::Play(file, part, workers) => show(program, file, part, workers),
         Command::Index(file, sums) => index(program, file, sums),
         Command::Check(file, index, workers) => {
-            check_recording(program, file, index, workers, false)
+            check_recording(program, file, index, workers, false, false)
         }
         Command::CheckEach(files, beside, workers) => {
-            check_each(program, files, beside, workers, false)
+            check_each(program, files, beside, workers, false, false)
         }
         Command::Verify(film, file, workers) => verify_files(program, film, file, workers, false),
         Command::VerifyPairs(pairs, workers) => verify_pairs(program, pairs, workers, false),

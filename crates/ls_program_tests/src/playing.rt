@@ -29,7 +29,7 @@ where
 /// the frames whose images the file is.
 pub fn code_in_memory<R>(rt: &R, files: &[Named<'_>], path: &str) -> Option<Vec<u8>>
 where
-    R: AllocGlobal,
+    R: AllocGlobal + Threads,
     ensures { IfSome result (λ codestreams. IsCodedFrom files.now path.now codestreams.items) }
 {
     code_film(rt, Memory { files, blanks: &[] }, path)
@@ -78,7 +78,7 @@ where
 /// Codes a film, over any files.
 fn code_film<R, O>(rt: &R, opener: O, path: &str) -> Option<Vec<u8>>
 where
-    R: AllocGlobal,
+    R: AllocGlobal + Threads,
     O: Opens + Copy + Drop,
     ensures { IfSome result (λ codestreams. WritesTextOf O.holds opener path.now (Some []) (Some codestreams.items) IsImageOf default_file) }
 {

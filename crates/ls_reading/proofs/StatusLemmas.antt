@@ -5,6 +5,7 @@ use Rattle.ls_archive.specs.declared.verifying.Verdict.TheVariants.{Same, Differ
 use Rattle.ls_archive.specs.declared.faults.IndexFault.{IndexFault}
 use Rattle.ls_archive.specs.View.Coded.{CodesWithIndex}
 use Rattle.ls_archive.specs.View.Comparing.{FindsAhead}
+use Rattle.ls_archive.specs.View.VerifiedParts.{FindsPart}
 use Rattle.ls_console.specs.declared.output.TheConstants.{DONE, FAILED}
 use Rattle.ls_film.specs.declared.faults.FilmFault.{FilmFault}
 use Rattle.ls_film.specs.declared.part.Part.{Part}
@@ -13,6 +14,7 @@ use Rattle.ls_film.specs.declared.playing.PlayFault.{PlayFault}
 use Rattle.ls_film.specs.View.Playing.{Stops, StopsAhead}
 use Rattle.ls_reading.specs.View.Commands.{IsPart, PlaysPart, ShowsPartOf, HaveSameFrames}
 use Rattle.ls_reading.specs.View.Indexes.{HasCoded}
+use Rattle.ls_reading.specs.View.Parts.{HaveSamePart}
 use Rattle.ls_reading.specs.View.Statuses.{DoneOrFailed, verdict_status}
 
 -- playing one by one stops as playing ahead does
@@ -69,6 +71,25 @@ module _ {O : Type 0} (holds : O → List ℕ → Option (List ℕ) → Type 0) 
   same-frames film recording images left codestreams (Differs number what) status one other finds is done = absurd (not-both status is done)
   same-frames film recording images left codestreams (Missing number) status one other finds is done = absurd (not-both status is done)
   same-frames film recording images left codestreams (Extra number) status one other finds is done = absurd (not-both status is done)
+
+  -- those of a part
+  pub same-part : (film recording : List ℕ) (part : Part) (images left codestreams rest : Option (List ℕ)) (verdict : Verdict) (status : ℕ) → holds opener film images
+      → holds opener recording codestreams → (IsPart part → FindsPart images left codestreams rest part.first part.last verdict) → status ≡ verdict_status verdict
+      → status ≡ DONE → IsPart part → HaveSamePart holds opener film recording part
+  same-part film recording part images left codestreams rest (Same count) status one other finds is done lawful =
+      record {
+        images = images;
+        images_left = left;
+        codestreams = codestreams;
+        codestreams_left = rest;
+        count = count;
+        film_file = one;
+        recording_file = other;
+        same = finds lawful;
+      }
+  same-part film recording part images left codestreams rest (Differs number what) status one other finds is done lawful = absurd (not-both status is done)
+  same-part film recording part images left codestreams rest (Missing number) status one other finds is done lawful = absurd (not-both status is done)
+  same-part film recording part images left codestreams rest (Extra number) status one other finds is done lawful = absurd (not-both status is done)
 
 -- a film was coded with its index, which is whole, if the status is 0
 pub has-coded : (read left written written' begun begun' index index' : Option (List ℕ)) (outcome : Result ℕ FilmFault) (status : ℕ) (broken : Option IndexFault)

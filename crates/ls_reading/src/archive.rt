@@ -1,5 +1,5 @@
 //! The commands `index`, `check` and `verify`: a recording is listed, checked for damage, and compared with its film.
-ghost use Rattle.std.specs.Prelude.{◌≡◌, ◌⊎◌, true, false, IfOk, IfErr, IfSome, IfNone, length};
+ghost use Rattle.std.specs.Prelude.{◌≡◌, ◌⊎◌, true, false, None, IfOk, IfErr, IfSome, IfNone, length};
 ghost use Rattle.ls_frame.specs.View.Chunks.{left_in, inner_reader};
 ghost use Rattle.ls_frame.specs.View.Devices.{count_after, wrapped};
 ghost use Rattle.ls_film.specs.View.Steps.{failed_by};
@@ -21,8 +21,8 @@ use ls_archive::{
     check, check_by, find_places, verify, verify_by, write_index,
 };
 use ls_console::{
-    Cause, Console, DONE, FAILED, Lines, Program, Reader, Shown, explain, finish_lines,
-    line_buffer, no_memory, open_film, say_unwritten,
+    Cause, Column, Console, DONE, FAILED, Lines, Objects, Program, Quoted, Reader, Shown, explain,
+    finish, finish_lines, line_buffer, no_memory, open_film, say_unwritten,
 };
 use ls_files::Opens;
 use ls_frame::{Buffered, Counted, Feed, Kind, Outlet, write_bytes};
@@ -33,6 +33,23 @@ use std::fs;
 use std::io::Write;
 use std::rt::Files;
 use std::thread::Threads;
+
+/// The columns of an index's lines.
+const COLUMNS: [Column; 13] = [
+    Column::Number("frame"),
+    Column::Number("offset"),
+    Column::Number("bytes"),
+    Column::Word("kind"),
+    Column::Number("width"),
+    Column::Number("height"),
+    Column::Number("maxval"),
+    Column::Number("P"),
+    Column::Number("T1"),
+    Column::Number("T2"),
+    Column::Number("T3"),
+    Column::Number("RESET"),
+    Column::Word("sha256"),
+];
 
 /// Writes the index of a recording, through a buffer.
 pub fn index<R, O, W, E>(program: Program<'_, R, O, W, E>, file: &str, sums: bool) -> u8
@@ -97,6 +114,58 @@ where
     finish_lines(status, lines, console)
 }
 
+/// Writes the index of a recording likewise, with an object of JSON for each line. What it writes is shown by tests; with
+/// the status `DONE` the recording was read to its end.
+pub fn index_json<R, O, W, E>(program: Program<'_, R, O, W, E>, file: &str, sums: bool) -> u8
+where
+    R: AllocGlobal,
+    O: Opens + Copy + Drop,
+    W: Write,
+    E: Outlet,
+    ensures status { DoneOrFailed result }
+    ensures recording { result ≡ DONE → WritesIndexOf O.holds program.entry.opener file.now None None sums }
+{
+    let Program {
+        rt,
+        opener,
+        output,
+        console,
+    } = program;
+    let Ok(buffer) = line_buffer(rt.alloc()) else {
+        return no_memory(console);
+    };
+    let lines = Lines::new(&mut *output, buffer);
+    index_objects(rt, opener, file, sums, lines, console)
+}
+
+/// Writes the objects of the lines of a recording's index to a writer, and flushes it.
+fn index_objects<R, O, L, E>(
+    rt: &R,
+    opener: O,
+    file: &str,
+    sums: bool,
+    lines: L,
+    console: &mut Console<E>,
+) -> u8
+where
+    R: AllocGlobal,
+    O: Opens + Copy + Drop,
+    L: Write + Drop,
+    E: Outlet,
+    ensures status { DoneOrFailed result }
+    ensures recording { result ≡ DONE → WritesIndexOf O.holds opener file.now None None sums }
+{
+    let mut objects = Counted::new(Objects::new(lines, &COLUMNS));
+    let indexed = Program {
+        rt,
+        opener,
+        output: &mut objects,
+        console: &mut *console,
+    };
+    let status = index_through(indexed, file, sums);
+    finish(status, &mut objects, console)
+}
+
 /// Writes the index of a recording to any output, which isn't flushed.
 pub fn index_through<R, O, L, E>(program: Program<'_, R, O, L, E>, file: &str, sums: bool) -> u8
 where
@@ -144,19 +213,42 @@ pub struct Checks {
     pub workers: u8,
     /// Whether codestreams must be strict, too.
     pub strict: bool,
-    /// Whether each line begins with the recording's name, since the lines of others are written too.
-    pub is_named: bool,
+    /// The form of their lines.
+    pub form: Form,
+}
+
+/// The form of the lines of a check.
+#[derive(Clone, Copy)]
+pub enum Form {
+    /// Texts.
+    Plain,
+    /// Texts that begin with the recording's name, since the lines of others are written too.
+    Named,
+    /// Objects of JSON.
+    Json,
+}
+
+/// The form of the lines of a check: JSON if that is asked for, else with names if there are several recordings.
+pub fn form_of(json: bool, several: bool) -> Form {
+    if json {
+        Form::Json
+    } else if several {
+        Form::Named
+    } else {
+        Form::Plain
+    }
 }
 
 /// Looks for damage in a recording, by its index if one is named, and then with this number of workers that decode.
-/// Writes a line for each finding, through a buffer. With `strict` also looks, if nothing is damaged, whether each
-/// codestream is strict.
+/// Writes a line for each finding, through a buffer; with `json` an object of JSON. With `strict` also looks, if nothing is
+/// damaged, whether each codestream is strict.
 pub fn check_recording<R, O, W, E>(
     program: Program<'_, R, O, W, E>,
     file: &str,
     index: Option<&str>,
     workers: u8,
     strict: bool,
+    json: bool,
 ) -> u8
 where
     R: AllocGlobal + Files + Threads + Sync,
@@ -187,7 +279,7 @@ where
     let asked = Checks {
         workers,
         strict,
-        is_named: false,
+        form: form_of(json, false),
     };
     let status = check_lined(lined, file, index, asked);
     let status = if Outlet::failures(&lines) > 0 {
@@ -280,7 +372,7 @@ where
         &mut recording,
         &mut findings,
     );
-    let mut report = Report::new(rt.alloc(), file, output, asked.is_named);
+    let mut report = Report::new(rt.alloc(), file, output, asked.form);
     let fault = match result {
         Ok(checked) => match find_moved(rt, opener, file, &findings, checked.bytes, console) {
             Ok(places) => return report.end_by(checked, &findings, &places, console),
@@ -302,7 +394,7 @@ where
 /// Looks elsewhere in the recording for the codestreams that were found to be damaged: one place or none for each.
 /// Empty if none has a sum, or the recording can't be read once more. `end` is the offset at which the last one
 /// should end. On failure says why and returns the status.
-fn find_moved<R, O, E>(
+pub fn find_moved<R, O, E>(
     rt: &R,
     opener: O,
     file: &str,
@@ -431,7 +523,7 @@ fn check_lent<Rt: AllocGlobal + Threads + Sync, I: Feed, R: Feed, F: Findings>(
 }
 
 /// Whether a check stopped because of its index.
-fn is_of_index(fault: CheckFault) -> bool {
+pub fn is_of_index(fault: CheckFault) -> bool {
     matches!(
         fault,
         CheckFault::Line(_) | CheckFault::IndexIo | CheckFault::TooMany
@@ -458,7 +550,7 @@ where
         Ok(recording) => recording,
         Err(status) => return status,
     };
-    let mut report = Report::new(rt.alloc(), file, output, asked.is_named);
+    let mut report = Report::new(rt.alloc(), file, output, asked.form);
     match decode_only(rt.alloc(), &mut recording, &mut report) {
         Ok(salvaged) => {
             let shown = Shown(file);
@@ -588,7 +680,7 @@ fn verify_lent<Rt: Threads + Sync, F: Feed, R: Feed>(
 }
 
 /// Says how a recording differs from its film, if it does, and returns the status.
-fn say_verdict<E: Outlet>(recording: &str, verdict: Verdict, console: &mut Console<E>) -> u8
+pub fn say_verdict<E: Outlet>(recording: &str, verdict: Verdict, console: &mut Console<E>) -> u8
     ensures { result ≡ verdict_status verdict }
 {
     let recording = Shown(recording);
@@ -641,24 +733,23 @@ fn kind_text(kind: Kind) -> &'static str {
 
 /// Writes the lines of a check.
 #[derive(Drop)]
-struct Report<'l, L> {
+pub struct Report<'l, L> {
     alloc: Global,
     /// The recording's name.
     file: &'l str,
     lines: &'l mut L,
-    /// Whether each line begins with the recording's name.
-    is_named: bool,
+    form: Form,
     /// The number of gaps reported so far.
     gaps: u64,
 }
 
 impl<'l, L: Outlet> Report<'l, L> {
-    fn new(alloc: Global, file: &'l str, lines: &'l mut L, is_named: bool) -> Report<'l, L> {
+    pub fn new(alloc: Global, file: &'l str, lines: &'l mut L, form: Form) -> Report<'l, L> {
         Report {
             alloc,
             file,
             lines,
-            is_named,
+            form,
             gaps: 0,
         }
     }
@@ -672,7 +763,7 @@ impl<'l, L: Outlet> Report<'l, L> {
 
     /// Writes a line about a frame, after the recording's name if lines begin with that.
     fn write_of_frame<D: Display + Drop>(&mut self, text: D) -> Result<(), AllocError> {
-        if self.is_named {
+        if matches!(self.form, Form::Named) {
             let file = Shown(self.file);
             self.write(format_args!("{file}: {text}"))
         } else {
@@ -680,9 +771,38 @@ impl<'l, L: Outlet> Report<'l, L> {
         }
     }
 
+    /// Writes the object of a damaged codestream of this number: the fault, and the bytes from an offset on.
+    fn write_fault<D: Display + Drop>(
+        &mut self,
+        number: u64,
+        fault: D,
+        count: u64,
+        place: u64,
+    ) -> Result<(), AllocError> {
+        let fault = format!(in self.alloc; "{fault}")?;
+        let (file, fault) = (Quoted(self.file), Quoted(&fault));
+        self.write(format_args!(
+            "{{\"file\": {file}, \"frame\": {number}, \"fault\": {fault}, \"bytes\": {count}, \"offset\": {place}}}"
+        ))
+    }
+
+    /// Writes the object of a codestream of this number that was found at another place.
+    fn write_moved(
+        &mut self,
+        number: u64,
+        count: u64,
+        place: u64,
+        stands: u64,
+    ) -> Result<(), AllocError> {
+        let file = Quoted(self.file);
+        self.write(format_args!(
+            "{{\"file\": {file}, \"frame\": {number}, \"fault\": \"moved\", \"bytes\": {count}, \"offset\": {place}, \"found\": {stands}}}"
+        ))
+    }
+
     /// Writes a line for each finding, with the place at which its codestream was found, if there is one, and then
     /// the totals. Returns the status.
-    fn end_by<E: Outlet>(
+    pub fn end_by<E: Outlet>(
         &mut self,
         checked: Checked,
         findings: &[Finding],
@@ -699,7 +819,11 @@ impl<'l, L: Outlet> Report<'l, L> {
     }
 
     /// Writes a line for each finding; the status if memory runs out.
-    fn tell_all<E: Outlet>(&mut self, findings: &[Finding], console: &mut Console<E>) -> Option<u8>
+    pub fn tell_all<E: Outlet>(
+        &mut self,
+        findings: &[Finding],
+        console: &mut Console<E>,
+    ) -> Option<u8>
         ensures { IfSome result (λ status. status ≡ FAILED) }
     {
         match self.write_all(findings, &[]) {
@@ -737,10 +861,13 @@ impl<'l, L: Outlet> Report<'l, L> {
             damage,
             ..
         } = *finding;
+        let is_json = matches!(self.form, Form::Json);
         match stands {
+            Some(stands) if is_json => self.write_moved(number, count, place, stands),
             Some(stands) => {
                 self.write_of_frame(format_args!("frame {number}: at {stands}, not {place}"))
             }
+            None if is_json => self.write_fault(number, damage, count, place),
             None => {
                 self.write_of_frame(format_args!(
                     "frame {number}: {damage}: {count} bytes at {place}"
@@ -762,9 +889,15 @@ impl<'l, L: Outlet> Report<'l, L> {
     }
 
     fn write_end(&mut self, checked: Checked, moved: u64) -> Result<(), AllocError> {
-        let file = Shown(self.file);
         let frames = checked.frames;
         let damaged = checked.damaged.saturating_sub(moved);
+        if matches!(self.form, Form::Json) {
+            let (file, more) = (Quoted(self.file), checked.more);
+            return self.write(format_args!(
+                "{{\"file\": {file}, \"frames\": {frames}, \"damaged\": {damaged}, \"moved\": {moved}, \"more_bytes\": {more}}}"
+            ));
+        }
+        let file = Shown(self.file);
         if checked.more {
             self.write(format_args!("{file}: more bytes than the index has"))?;
         }
@@ -791,6 +924,9 @@ impl<'l, L: Outlet> Gaps for Report<'l, L> {
         } = gap;
         let number = frame.saturating_add(self.gaps);
         self.gaps = self.gaps.saturating_add(1);
+        if matches!(self.form, Form::Json) {
+            return self.write_fault(number, fault, count, place);
+        }
         self.write_of_frame(format_args!(
             "frame {number}: {fault}: {count} bytes at {place} passed over"
         ))

@@ -1,7 +1,9 @@
 //! The causes of faults, and what is said when an engine over a file stops.
 ghost use Rattle.std.specs.Prelude.{◌≡◌, MatchResult};
 
-use ls_archive::{CheckFault, IndexFault, ListedFault, VerifyFault};
+use ls_archive::{
+    CheckFault, CheckPartFault, IndexFault, ListedFault, VerifyFault, VerifyPartFault,
+};
 use ls_console::{Cause, Console, DONE, FAILED, Reader, Shown, cause_of_input, explain};
 use ls_files::Opens;
 use ls_film::{FilmFault, PartFault, PlayFault};
@@ -76,6 +78,15 @@ impl Caused for CheckFault {
     }
 }
 
+impl Caused for CheckPartFault {
+    fn cause(&self) -> Cause {
+        match self {
+            CheckPartFault::Check(fault) => fault.cause(),
+            CheckPartFault::TooFew(_) => Cause::Other,
+        }
+    }
+}
+
 impl Caused for ListedFault {
     fn cause(&self) -> Cause {
         match self {
@@ -93,6 +104,16 @@ impl Caused for VerifyFault {
             VerifyFault::Recording(0, StreamFault::NotSoi) => Cause::Format,
             VerifyFault::RecordingIo(_) => Cause::Reading,
             _ => Cause::Other,
+        }
+    }
+}
+
+impl Caused for VerifyPartFault {
+    fn cause(&self) -> Cause {
+        match self {
+            VerifyPartFault::Verify(fault) => fault.cause(),
+            VerifyPartFault::Passing(fault) => fault.cause(),
+            VerifyPartFault::FilmTooFew(_) | VerifyPartFault::RecordingTooFew(_) => Cause::Other,
         }
     }
 }

@@ -3,7 +3,7 @@ ghost use Rattle.std.specs.Prelude.{◌≡◌, ◌⊎◌, All, IfOk, ◌++◌, c
 ghost use Rattle.ls_reading.specs.View.Each.{IsSound, IsOfFilm};
 ghost use Rattle.ls_reading.specs.View.Statuses.{DoneOrFailed};
 
-use crate::archive::{Checks, check_lined, verify_files};
+use crate::archive::{Checks, check_lined, form_of, verify_files};
 use ls_console::{
     Console, DONE, FAILED, Lines, Program, Shown, line_buffer, no_memory, say_unwritten, write_text,
 };
@@ -16,7 +16,8 @@ use std::thread::Threads;
 
 /// Looks for damage in each of these recordings: by the index beside it if `beside`, and then with this number of
 /// workers that decode; else by itself. Writes a line for each finding, which begins with the recording's name if there
-/// are several. With `strict` also looks whether the codestreams of those that aren't damaged are strict.
+/// are several; with `json` an object of JSON. With `strict` also looks whether the codestreams of those that aren't
+/// damaged are strict.
 ///
 /// A recording that is damaged or can't be read keeps none of the others from being checked; but once standard output
 /// has failed, no more are.
@@ -26,6 +27,7 @@ pub fn check_each<R, O, W, E>(
     beside: bool,
     workers: u8,
     strict: bool,
+    json: bool,
 ) -> u8
 where
     R: AllocGlobal + Files + Threads + Sync,
@@ -48,7 +50,7 @@ where
     let asked = Checks {
         workers,
         strict,
-        is_named: files.len() > 1,
+        form: form_of(json, files.len() > 1),
     };
     let mut status = DONE;
     for file in files {

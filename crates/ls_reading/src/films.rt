@@ -20,14 +20,30 @@ use crate::indexing::{make_index, say_twice};
 use core::mem::replace_with;
 use ls_archive::{CodedFilm, IndexFault, code_film_with_index};
 use ls_console::{
-    Console, DONE, EndedIndex, FAILED, Host, Lines, MadeFile, Program, Reader, USAGE, finish_lines,
-    line_buffer, no_memory, open_film, say_index_end,
+    Column, Console, DONE, EndedIndex, FAILED, Host, Lines, MadeFile, Objects, Program, Reader,
+    USAGE, finish, finish_lines, line_buffer, no_memory, open_film, say_index_end,
 };
 use ls_files::{Keeper, Makes, Opens, Target};
-use ls_film::{FilmFault, code_film, list_film};
+use ls_film::{FilmFault, code_film_by, list_film};
 use ls_frame::{Counted, Failed, Feed, Outlet};
 use std::alloc::Global;
 use std::io::Write;
+use std::thread::Threads;
+
+/// The columns of a film's lines.
+const COLUMNS: [Column; 11] = [
+    Column::Number("frame"),
+    Column::Word("kind"),
+    Column::Number("width"),
+    Column::Number("height"),
+    Column::Number("maxval"),
+    Column::Number("P"),
+    Column::Number("T1"),
+    Column::Number("T2"),
+    Column::Number("T3"),
+    Column::Number("RESET"),
+    Column::Number("LIMIT"),
+];
 
 /// Lists a film, through a buffer.
 pub fn list<R, O, W, E>(program: Program<'_, R, O, W, E>, file: &str) -> u8
@@ -88,6 +104,50 @@ where
     finish_lines(status, lines, console)
 }
 
+/// Lists a film likewise, with an object of JSON for each line. What it writes is shown by tests; with the status `DONE`
+/// the film was read to its end.
+pub fn list_json<R, O, W, E>(program: Program<'_, R, O, W, E>, file: &str) -> u8
+where
+    R: AllocGlobal,
+    O: Opens + Copy + Drop,
+    W: Write,
+    E: Outlet,
+    ensures status { DoneOrFailed result }
+    ensures film { result ≡ DONE → WritesTextOf O.holds program.entry.opener file.now None None IsImageOf film_lines }
+{
+    let Program {
+        rt,
+        opener,
+        output,
+        console,
+    } = program;
+    let Ok(buffer) = line_buffer(rt.alloc()) else {
+        return no_memory(console);
+    };
+    list_objects(rt, opener, file, Lines::new(&mut *output, buffer), console)
+}
+
+/// Writes the objects of a film's lines to a writer, and flushes it.
+fn list_objects<R, O, L, E>(rt: &R, opener: O, file: &str, lines: L, console: &mut Console<E>) -> u8
+where
+    R: AllocGlobal,
+    O: Opens + Copy + Drop,
+    L: Write + Drop,
+    E: Outlet,
+    ensures status { DoneOrFailed result }
+    ensures film { result ≡ DONE → WritesTextOf O.holds opener file.now None None IsImageOf film_lines }
+{
+    let mut objects = Counted::new(Objects::new(lines, &COLUMNS));
+    let listed = Program {
+        rt,
+        opener,
+        output: &mut objects,
+        console: &mut *console,
+    };
+    let status = list_through(listed, file);
+    finish(status, &mut objects, console)
+}
+
 /// Lists a film, over any output, which isn't flushed.
 fn list_through<R, O, L, E>(program: Program<'_, R, O, L, E>, file: &str) -> u8
 where
@@ -126,10 +186,10 @@ fn list_to<R: Feed, W: Outlet>(alloc: Global, film: &mut R, lines: &mut W) -> Re
     list_film(alloc, film, lines)
 }
 
-/// Codes a film.
+/// Codes a film, the scans of a colour frame side by side.
 pub fn code<R, O, W, E>(program: Program<'_, R, O, W, E>, file: &str) -> u8
 where
-    R: AllocGlobal,
+    R: AllocGlobal + Threads,
     O: Opens + Copy + Drop,
     W: Write,
     E: Outlet,
@@ -147,13 +207,13 @@ where
         Ok(film) => film,
         Err(status) => return status,
     };
-    let result = code_to(rt.alloc(), &mut film, output);
+    let result = code_to(rt, &mut film, output);
     conclude(file, result, &film, output.last_failure(), console)
 }
 
 /// Codes a film, over any reader and writer.
-fn code_to<R: Feed, W: Outlet>(
-    alloc: Global,
+fn code_to<Rt: AllocGlobal + Threads, R: Feed, W: Outlet>(
+    rt: &Rt,
     film: &mut R,
     output: &mut W,
 ) -> Result<u64, FilmFault>
@@ -164,13 +224,13 @@ fn code_to<R: Feed, W: Outlet>(
     ensures reads { R.failed_reads film.new ≡ count_after (failed_by blames_reader result) (R.failed_reads film.old) }
     ensures writes { W.failed_writes output.new ≡ count_after (failed_by blames_writer result) (W.failed_writes output.old) }
 {
-    code_film(alloc, film, output)
+    code_film_by(rt, rt.alloc(), film, output)
 }
 
 /// Codes a film, and writes the index of its codestreams to a file, which must be another one.
 pub fn code_with_index<R, O, W, E>(program: Program<'_, R, O, W, E>, file: &str, index: &str) -> u8
 where
-    R: Host,
+    R: Host + Threads,
     O: Makes + Copy + Drop,
     W: Write,
     E: Outlet,
@@ -196,7 +256,7 @@ where
         Ok(made) => made,
         Err(status) => return status,
     };
-    let coded = code_made(rt.alloc(), file, film, made, output, console);
+    let coded = code_made(rt, file, film, made, output, console);
     coded.index.release();
     coded.status
 }
@@ -209,8 +269,8 @@ struct Coded<'a, O: Opens> {
 }
 
 /// Codes a film while its index is written to a file that was made.
-fn code_made<'a, O, W, E>(
-    alloc: Global,
+fn code_made<'a, Rt, O, W, E>(
+    rt: &Rt,
     file: &str,
     film: Reader<'_, O>,
     made: MadeFile<'a, O>,
@@ -218,6 +278,7 @@ fn code_made<'a, O, W, E>(
     console: &mut Console<E>,
 ) -> Coded<'a, O>
 where
+    Rt: AllocGlobal + Threads,
     O: Makes + Copy + Drop,
     W: Write,
     E: Outlet,
@@ -231,7 +292,7 @@ where
         mut keeper,
     } = made;
     let coding = Coding {
-        alloc,
+        rt,
         film,
         index: Counted::new(target),
     };
@@ -270,8 +331,8 @@ impl<'a, O: Opens> Coded<'a, O> {
 
 /// A film to be coded, and what its index is written to.
 #[derive(Drop)]
-struct Coding<R, I> {
-    alloc: Global,
+struct Coding<'rt, Rt, R, I> {
+    rt: &'rt Rt,
     film: R,
     index: I,
 }
@@ -287,18 +348,18 @@ struct Followed<R, I> {
 }
 
 /// Codes a film, over any reader and writer, while its index is written. Returns the writer with what was done.
-fn code_followed<R: Feed, W: Outlet, I: Outlet>(
+fn code_followed<Rt: AllocGlobal + Threads, R: Feed, W: Outlet, I: Outlet>(
     output: W,
-    coding: Coding<R, I>,
+    coding: Coding<'_, Rt, R, I>,
 ) -> (W, Followed<R, I>)
-    ensures completes { IfOk result.1.result (CodesWithIndex (R.remaining coding.film) (R.remaining result.1.film)
-        (W.contents output) (W.contents result.0) (I.contents coding.index) (I.contents result.1.index) result.1.broken) }
+    ensures completes { IfOk result.1.result (CodesWithIndex (R.remaining coding.entry.film) (R.remaining result.1.film)
+        (W.contents output) (W.contents result.0) (I.contents coding.entry.index) (I.contents result.1.index) result.1.broken) }
     ensures stops { IfErr result.1.result (Stops default_file
-        (R.remaining coding.film) (R.remaining result.1.film) (W.contents output) (W.contents result.0)) }
-    ensures reads { R.failed_reads result.1.film ≡ count_after (failed_by blames_reader result.1.result) (R.failed_reads coding.film) }
+        (R.remaining coding.entry.film) (R.remaining result.1.film) (W.contents output) (W.contents result.0)) }
+    ensures reads { R.failed_reads result.1.film ≡ count_after (failed_by blames_reader result.1.result) (R.failed_reads coding.entry.film) }
 {
     let Coding {
-        alloc,
+        rt,
         mut film,
         index,
     } = coding;
@@ -307,7 +368,7 @@ fn code_followed<R: Feed, W: Outlet, I: Outlet>(
         recording,
         index,
         broken,
-    } = code_film_with_index(alloc, &mut film, output, index);
+    } = code_film_with_index(rt, rt.alloc(), &mut film, output, index);
     let followed = Followed {
         result,
         film,

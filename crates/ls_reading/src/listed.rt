@@ -97,7 +97,7 @@ fn play_lent<I: Feed, R: Feed, W: Outlet>(
 
 /// Opens an index at the line of this number, and returns the offset of its codestream too. On failure says why and
 /// returns the status.
-fn lines_from<'a, O, E>(
+pub fn lines_from<'a, O, E>(
     alloc: Global,
     opener: O,
     index: &'a str,
@@ -185,32 +185,45 @@ fn front_at<O: Opens + Copy + Drop>(
 /// The place and the number of the first line that begins in bytes that stand at a place.
 fn line_after(place: u64, bytes: &[u8]) -> Option<(u64, u64)> {
     let (before, line) = from_utf8(bytes).ok()?.split_once('\n')?;
-    let (number, _offset) = columns(line)?;
+    let (number, _offset, _size) = columns(line)?;
     let begins = place.saturating_add(before.len() as u64).saturating_add(1);
     Some((begins, number))
 }
 
-/// The line of this number among those in bytes that begin with a line and stand at a place.
+/// The line of this number among those in bytes that begin with a line and stand at a place; or else where it would
+/// begin, after the one before it.
 fn hint_in(place: u64, bytes: &[u8], wanted: u64) -> Option<Hint> {
     let mut place = place;
     let mut left = from_utf8(bytes).ok()?;
+    let mut next = None;
     for _line in 0..FRONT {
-        let (line, after) = left.split_once('\n')?;
-        match columns(line)? {
-            (number, offset) if number == wanted => return Some(Hint { place, offset }),
-            _ => {}
+        let Some((line, after)) = left.split_once('\n') else {
+            return next;
+        };
+        let (number, offset, size) = columns(line)?;
+        if number == wanted {
+            return Some(Hint { place, offset });
         }
         place = place.saturating_add(line.len() as u64).saturating_add(1);
+        if number.saturating_add(1) == wanted {
+            let offset = offset.saturating_add(size);
+            next = Some(Hint { place, offset });
+        }
         left = after;
     }
-    None
+    next
 }
 
-/// The first two columns of a line: its number, and the offset of its codestream.
-fn columns(line: &str) -> Option<(u64, u64)> {
+/// The first three columns of a line: its number, and the offset and the size of its codestream.
+fn columns(line: &str) -> Option<(u64, u64, u64)> {
     let (number, rest) = line.split_once(' ')?;
-    let (offset, _rest) = rest.split_once(' ')?;
-    Some((number.parse().ok()?, offset.parse().ok()?))
+    let (offset, rest) = rest.split_once(' ')?;
+    let (size, _rest) = rest.split_once(' ')?;
+    Some((
+        number.parse().ok()?,
+        offset.parse().ok()?,
+        size.parse().ok()?,
+    ))
 }
 
 /// Passes over the first lines of an index, over any reader; none if there can't be so many.

@@ -47,6 +47,8 @@ pub struct Recording<R, W> {
 /// `window` frames, 1 to 64, are read and not yet written. (The queue and the windows are made so; no clause of
 /// `record` says it.)
 ///
+/// If there are more workers than films, each worker codes the scans of a colour frame side by side, by two threads more.
+///
 /// Each film has a lane of its own, and its track speaks of that film alone (`lane::lane` says what each result means).
 /// A lane that ends with `NotStarted` had no thread, and read and wrote nothing. That no film's end or fault affects
 /// another is tested, not said by a clause. If the bytes of a film's reader and writer are known (as in memory), the
@@ -91,7 +93,8 @@ pub fn record<Rt: Threads + Wait + Sync, R: Feed + Send + Drop, W: Outlet + Send
 }
 
 /// What a recording has before it starts a thread: its queue with the seats and boxes, a flag for each source, buffers
-/// for its threads' results, and the number of frames in a window.
+/// for its threads' results, the number of frames in a window, and whether the scans of a colour frame are coded side by
+/// side.
 #[derive(Drop)]
 struct Prepared<R: Feed + Drop, W: Outlet + Drop> {
     queue: Queue<Order>,
@@ -99,6 +102,7 @@ struct Prepared<R: Feed + Drop, W: Outlet + Drop> {
     flags: Vec<AtomicBool>,
     buffers: Buffers<R, W>,
     window: usize,
+    splits: bool,
 }
 
 /// Allocates what a recording of `sources` films needs before it starts a thread. Requires numbers within their limits.
@@ -122,6 +126,7 @@ fn prepare<Rt: Wait, R: Feed + Drop, W: Outlet + Drop>(
         flags,
         buffers,
         window: sizes.window,
+        splits: sizes.workers > sources,
     })
 }
 
@@ -145,6 +150,7 @@ fn run_prepared<Rt: Threads + Wait + Sync, R: Feed + Send + Drop, W: Outlet + Se
         flags,
         buffers,
         window,
+        splits,
     } = prepared;
     let shared = Shared {
         rt,
@@ -153,6 +159,7 @@ fn run_prepared<Rt: Threads + Wait + Sync, R: Feed + Send + Drop, W: Outlet + Se
         gate,
         refused: &flags,
         window,
+        splits,
     };
     match run_in_scope(&shared, films, seats, buffers) {
         Ok(ran) => Ok(settled(rt, queue, ran)),

@@ -8,6 +8,7 @@ use ls_recorder::{Gate, Inbox, Moment, OpenGate, Order, Outbox, work};
 use std::alloc::Global;
 use std::sync::Wait;
 use std::sync::atomic::{AtomicU64, Ordering};
+use std::thread::Threads;
 
 /// A gate that counts how often it is called.
 #[derive(Drop)]
@@ -99,7 +100,7 @@ fn put_two<R: Wait>(
 
 /// Gives a worker two pixels. Returns the number that it codes, and the number of results that come back to it; `None`
 /// if an allocation fails.
-fn code_two<R: Wait, G: Gate>(
+fn code_two<R: Threads + Wait, G: Gate>(
     rt: &R,
     alloc: Global,
     outbox: Outbox,
@@ -109,7 +110,7 @@ fn code_two<R: Wait, G: Gate>(
     if outbox.sources() == 0 {
         return None;
     }
-    let worked = work(rt, alloc, &queue, worker, outbox, gate);
+    let worked = work(rt, alloc, &queue, worker, outbox, gate, false);
     Some((worked.coded, worked.undelivered))
 }
 
@@ -119,7 +120,7 @@ fn both_come_out<R: Wait>(rt: &R, inbox: &mut Inbox) -> bool {
 }
 
 /// Whether a worker codes two pixels, one after the other, and counts them. `None` if an allocation fails.
-fn two_pixels_are_coded<R: Wait>(rt: &R, alloc: Global) -> Option<bool> {
+fn two_pixels_are_coded<R: Threads + Wait>(rt: &R, alloc: Global) -> Option<bool> {
     let (mut inbox, outbox) = one_box(rt, alloc, 2)?;
     let gate = Counter {
         before: AtomicU64::new(0),
@@ -138,7 +139,7 @@ fn jobs_are_coded_and_answered_with_ample_memory(rt: HostRuntime) {
 
 /// Whether a worker codes two pixels whose lane is gone, and counts that both results came back. `None` if an
 /// allocation fails.
-fn two_pixels_come_back<R: Wait>(rt: &R, alloc: Global) -> Option<bool> {
+fn two_pixels_come_back<R: Threads + Wait>(rt: &R, alloc: Global) -> Option<bool> {
     let (inbox, outbox) = one_box(rt, alloc, 2)?;
     drop(inbox);
     let counts = code_two(rt, alloc, outbox, &OpenGate)?;

@@ -57,7 +57,7 @@ where
     E: Outlet + Send,
     ensures { result ≡ DONE → HasRecorded O.holds R.File.remaining R.File.contents program.entry.opener asked.entry.tuning asked.entry.count asked.entry.files.items }
 {
-    let columns = program.console.columns();
+    let columns = program.console.columns_of_all(asked.files.len());
     let names = match names_once(program.rt.alloc(), &asked, columns) {
         Ok(names) => names,
         Err(refusal) => return refusal.say(program.console),

@@ -3,6 +3,7 @@ use Rattle.std.proofs.Common.{◌≡◌, ℕ, zero, suc, ◌+◌, ◌*◌, ◌-�
 use Rattle.std.specs.List.{range_with_len}
 use Rattle.std.proofs.lemmas.List.{flat_map_more}
 use Rattle.std.proofs.lemmas.List.FromFn.{map-range_with_len_more}
+use Rattle.ls_frame.specs.declared.frame.Kind.TheVariants.{Color}
 use Rattle.ls_frame.specs.Picture.{Picture, components}
 use Rattle.ls_frame.specs.Parameters.{Parameters}
 use Rattle.ls_bits.specs.Stuffing.{stuff}
@@ -100,3 +101,17 @@ unfolding bound headers_length
 room_is f p =
     let split : components f.kind * (10 + scan_bound f p) ≡ 10 * components f.kind + components f.kind * scan_bound f p = omega arith in
     omega arith
+
+-- the scans of a colour frame, one after the other
+pub three_scans : (f : Picture) (p : Parameters) (bytes one two three first second third : List ℕ) → f.kind ≡ Color → first ≡ scan_of f p 0 → second ≡ scan_of f p 1 → third ≡ scan_of f p 2
+    → one ≡ bytes ++ first → two ≡ one ++ second → three ≡ two ++ third → three ≡ bytes ++ scans_up_to f p (components f.kind)
+unfolding scans_up_to
+three_scans f p bytes one two three first second third color is_first is_second is_third e g h =
+    let a = scan_of f p 0 in
+    let b = scan_of f p 1 in
+    let d = scan_of f p 2 in
+    h ∙ ap (λ x. x ++ third) (g ∙ ap (λ x. x ++ second) e)
+    ∙ ap (λ x. ((bytes ++ x) ++ second) ++ third) is_first ∙ ap (λ x. ((bytes ++ a) ++ x) ++ third) is_second ∙ ap (λ x. ((bytes ++ a) ++ b) ++ x) is_third
+    ∙ append_assoc (bytes ++ a) b d ∙ append_assoc bytes a (b ++ d)
+    ∙ ap (λ x. bytes ++ (a ++ (b ++ x))) (sym (append-nil d))
+    ∙ ap (λ kind. bytes ++ flat_map (scan_of f p) (range_with_len 0 (components kind))) (sym color)

@@ -1,4 +1,5 @@
 //! Encoding frames as codestreams (T.87 Annex C).
+pub mod beside;
 mod coder;
 mod row;
 mod scan;

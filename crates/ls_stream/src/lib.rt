@@ -46,6 +46,7 @@ mod shape;
 pub use arranged::{ArrangedView, Arrangement};
 pub use buffers::Lines;
 pub use decode::{Decoded, Opening, decode_frame};
+pub use encode::beside::encode_side_by_side;
 pub use encode::{
     code_bound, encode_frame, encode_into, encode_picture, encode_with, encode_within,
     picture_bound,

@@ -8,11 +8,12 @@ use crate::testing::{
 use ls_frame::{Form, Frame, Kind, PictureView, Presets, Samples};
 use ls_stream::{
     ArrangedView, Arrangement, Lines, code_bound, encode_frame, encode_into, encode_picture,
-    encode_with, encode_within, picture_bound,
+    encode_side_by_side, encode_with, encode_within, picture_bound,
 };
 use std::alloc::{AllocError, Global};
 use std::process::Abort;
 use std::test::Fail;
+use std::thread::Threads;
 use sums::{LARGE, LONGEST_RUNS, SMALL};
 
 /// Checks the codestream of a frame with the default parameters.
@@ -51,7 +52,7 @@ fn gray_frames_have_their_planes_scans_with_ample_memory(
 
 /// Checks the codestream of a frame of these parts, by default and with explicit defaults, and the bound on its length.
 fn check_codestream(
-    rt: &impl Abort,
+    rt: &(impl Abort + Threads),
     alloc: Global,
     parts: &Parts<'_>,
     want: &[u8],
@@ -62,6 +63,8 @@ fn check_codestream(
     check_coded(rt, alloc, "by default", &frame, want)?;
     let explicit = encode_with(alloc, &frame, &presets)?;
     check_bytes(rt, "explicit", &explicit, want);
+    let beside = encode_side_by_side(rt, alloc, &frame, &presets)?;
+    check_bytes(rt, "side by side", &beside, want);
     let view = frame.view();
     let view = ArrangedView::new(view.picture(), Arrangement::Pixels);
     let pictured = encode_picture(alloc, &view, &presets)?;

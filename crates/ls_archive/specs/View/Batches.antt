@@ -1,10 +1,9 @@
 -- A check by an index, batch by batch: lines that are taken at once, and what is found for them, whoever looks at their codestreams.
-use Rattle.std.specs.Prelude.{◌≡◌, ◌⊎◌, ◌↔◌, ℕ, ◌+◌, ◌<◌, Bool, true, false, IsTrue, List, [], ◌∷◌, length, Option, Result, Err, IfOk, OnErr}
+use Rattle.std.specs.Prelude.{◌≡◌, ◌⊎◌, ℕ, ◌+◌, ◌<◌, Bool, true, false, List, [], ◌∷◌, Option, Result, Err, IfOk, OnErr}
 use Rattle.ls_frame.specs.View.Devices.{count_after}
-use Rattle.ls_frame.specs.View.Known.{Tells, Gave, WasAtEnd, known}
+use Rattle.ls_frame.specs.View.Known.{Gave}
 use Rattle.ls_archive.specs.declared.checking.CheckFault.{CheckFault}
 use Rattle.ls_archive.specs.declared.checking.CheckFault.TheVariants as fault
-use Rattle.ls_archive.specs.declared.checking.Checked.{Checked}
 use Rattle.ls_archive.specs.declared.checking.Finding.{Finding}
 use Rattle.ls_archive.specs.declared.checking.IndexLine.{IndexLine}
 use Rattle.ls_archive.specs.declared.checking.batches.After.{After}
@@ -13,7 +12,7 @@ use Rattle.ls_archive.specs.declared.checking.batches.Batch.{Batch}
 use Rattle.ls_archive.specs.declared.checking.batches.Listed.{Listed}
 use Rattle.ls_archive.specs.declared.checking.batches.SoFar.{SoFar}
 use Rattle.ls_archive.specs.View.Checking.{Line, IsLine, HasEntry}
-use Rattle.ls_archive.specs.View.Checks.{GaveAtMost, IsFound, HasChecked, StopsNextLine, StopsReading, blames_index, blames_recording}
+use Rattle.ls_archive.specs.View.Checks.{GaveAtMost, IsFound, HasChecked, EndsLines, StopsNextLine, IsUntorn, StopsReading, blames_index, blames_recording}
 
 -- The place of a check: what is left of the index and of the recording, the number of the next line, and the offset that it must say.
 pub record Place : Type 0 where
@@ -44,25 +43,23 @@ abbrev pub AreTaken : Place → Place → List Listed → Type 0
 AreTaken at next [] = at ≡ next
 AreTaken at next (job ∷ jobs) = (mid : Place) × IsTaken at mid job × AreTaken mid next jobs
 
--- This fault is in the next line; or in the bytes of that line, or, after the last line, in the recording's next byte.
-abbrev pub StopsTaking : Place → Option (List ℕ) → Option (List ℕ) → CheckFault → Type 0
-StopsTaking at index recording fault =
-    StopsNextLine at.index index at.number at.offset fault
-    ⊎ (((l : Line) × IsLine at.number at.offset l × Gave at.index index (λ bytes. l.text ≡ bytes) × StopsReading at.recording recording l.size fault)
-    ⊎ (WasAtEnd at.index index × StopsReading at.recording recording 1 fault))
+-- This fault is in the next line, or in the bytes of that line.
+abbrev pub StopsTaking : Bool → Place → Option (List ℕ) → Option (List ℕ) → CheckFault → Type 0
+StopsTaking growing at index recording fault =
+    (StopsNextLine at.index index at.number at.offset fault × IsUntorn growing at.index fault)
+    ⊎ ((l : Line) × IsLine at.number at.offset l × Gave at.index index (λ bytes. l.text ≡ bytes) × StopsReading at.recording recording l.size fault)
 
--- what follows the lines that were taken, and leaves this of both readers
-abbrev pub ComesAfter : Place → Option (List ℕ) → Option (List ℕ) → After → Type 0
-ComesAfter at index recording More = (at.index ≡ index) × (at.recording ≡ recording)
-ComesAfter at index recording (End more) =
-    WasAtEnd at.index index × (Tells at.recording → IsTrue more ↔ (0 < length (known at.recording)))
-ComesAfter at index recording (Fault fault) = StopsTaking at index recording fault
+-- What follows the lines that were taken, and leaves this of both readers. With `growing` the index may end with the torn beginning of a line.
+abbrev pub ComesAfter : Bool → Place → Option (List ℕ) → Option (List ℕ) → After → Type 0
+ComesAfter growing at index recording More = (at.index ≡ index) × (at.recording ≡ recording)
+ComesAfter growing at index recording End = EndsLines growing at.index index × (at.recording ≡ recording)
+ComesAfter growing at index recording (Fault fault) = StopsTaking growing at index recording fault
 
 -- At this place the readers gave the batch's lines with their bytes, and then what follows these; this is left of both readers.
-pub record IsBatch (at : Place) (index recording : Option (List ℕ)) (batch : Batch) : Type 0 where
+pub record IsBatch (growing : Bool) (at : Place) (index recording : Option (List ℕ)) (batch : Batch) : Type 0 where
   pub mid : Place
   pub taken : AreTaken at mid batch.jobs.items
-  pub after : ComesAfter mid index recording batch.after
+  pub after : ComesAfter growing mid index recording batch.after
 
 -- ---- what is found
 
@@ -95,17 +92,17 @@ AreLooked at next (job ∷ jobs) = (mid : Place) × IsLooked at mid job × AreLo
 
 -- ---- what is reported
 
--- The codestreams of the lines before this place were checked, and the findings on them reported.
-pub record HasCheckedTo (index recording : Option (List ℕ)) (found found' : Option (List Finding)) (at : Place) (so_far : SoFar) : Type 0 where
+-- The codestreams of the lines from the first one on and before this place were checked, and the findings on them reported.
+pub record HasCheckedTo (first start : ℕ) (index recording : Option (List ℕ)) (found found' : Option (List Finding)) (at : Place) (so_far : SoFar) : Type 0 where
   pub number : so_far.number ≡ at.number
   pub offset : so_far.offset ≡ at.offset
-  pub checked : HasChecked index at.index recording at.recording found found' at.number at.offset so_far.damaged
+  pub checked : HasChecked first start index at.index recording at.recording found found' at.number at.offset so_far.damaged
 
 -- A check that stands before these codestreams, whatever its place, stands before those that are left once what was found is reported.
 abbrev pub LeadsOn : Option (List Finding) → Option (List Finding) → SoFar → SoFar → List Listed → List Listed → Type 0
 LeadsOn told told' so_far so_far' jobs left =
-    (index recording : Option (List ℕ)) (found : Option (List Finding)) (at next : Place) → HasCheckedTo index recording found told at so_far → AreLooked at next jobs
-    → (mid : Place) × HasCheckedTo index recording found told' mid so_far' × AreLooked mid next left
+    (first start : ℕ) (index recording : Option (List ℕ)) (found : Option (List Finding)) (at next : Place) → HasCheckedTo first start index recording found told at so_far
+    → AreLooked at next jobs → (mid : Place) × HasCheckedTo first start index recording found told' mid so_far' × AreLooked mid next left
 
 -- the same, for some state and some codestreams left, at least one
 abbrev pub LeadsSomewhere : Option (List Finding) → Option (List Finding) → SoFar → List Listed → Type 0
@@ -116,19 +113,19 @@ LeadsSomewhere told told' so_far jobs = (so_far' : SoFar) × (next : Listed) × 
 -- whether a read of the index failed after the lines that were taken, and whether a read of the recording did
 abbrev pub fails_index : After → Bool
 fails_index More = false
-fails_index (End more) = false
+fails_index End = false
 fails_index (Fault fault) = blames_index fault
 
 abbrev pub fails_recording : After → Bool
 fails_recording More = false
-fails_recording (End more) = false
+fails_recording End = false
 fails_recording (Fault fault) = blames_recording fault
 
 -- The failed reads: one if that is the fault, else none; or, if the result is that an allocation failed, one that came after what the
 -- allocation was for.
-abbrev pub HasReadBeyond : Bool → ℕ → ℕ → Result Checked CheckFault → Type 0
+abbrev pub HasReadBeyond : {X : Type 0} → Bool → ℕ → ℕ → Result X CheckFault → Type 0
 HasReadBeyond blamed failed failed' result = (failed' ≡ count_after blamed failed) ⊎ ((result ≡ Err fault.NoMemory) × (failed' ≡ count_after true failed))
 
 -- the same of batches that have at most this many codestreams: with one there is no such read
-abbrev pub HasReadBatches : ℕ → Bool → ℕ → ℕ → Result Checked CheckFault → Type 0
+abbrev pub HasReadBatches : {X : Type 0} → ℕ → Bool → ℕ → ℕ → Result X CheckFault → Type 0
 HasReadBatches most blamed failed failed' result = (failed' ≡ count_after blamed failed) ⊎ ((1 < most) × HasReadBeyond blamed failed failed' result)

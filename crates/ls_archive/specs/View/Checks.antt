@@ -1,8 +1,8 @@
 -- What a check by an index says of its two readers and of the findings that it reports.
-use Rattle.std.specs.Prelude.{◌≡◌, ◌⊎◌, ◌↔◌, ℕ, ◌<◌, ◌≤◌, Bool, true, false, IsTrue, List, [], ◌∷◌, ◌++◌, length, take, drop, codes, Option, None, Some}
+use Rattle.std.specs.Prelude.{◌≡◌, ◌⊎◌, ◌↔◌, ℕ, ◌+◌, ◌<◌, ◌≤◌, Bool, true, false, IsTrue, List, [], ◌∷◌, ◌++◌, ◌==◌, ◌&&◌, ◌||◌, nat_le, length, take, drop, codes, Option, None, Some}
 use Rattle.ls_film.specs.Film.{most_frames}
 use Rattle.ls_film.specs.View.Memory.{HasBytes}
-use Rattle.ls_frame.specs.View.Known.{Tells, Gave, HadBytes, known}
+use Rattle.ls_frame.specs.View.Known.{Tells, Gave, HadBytes, WasAtEnd, known}
 use Rattle.ls_archive.specs.declared.checking.Damage.{Damage}
 use Rattle.ls_archive.specs.declared.checking.Finding.{Finding}
 use Rattle.ls_archive.specs.declared.checking.Checked.{Checked}
@@ -36,6 +36,23 @@ pub record IsOneLine (text : List ℕ) : Type 0 where
 abbrev pub IsFrontLine : List ℕ → List ℕ → Type 0
 IsFrontLine bytes text = (front rest : List ℕ) → bytes ≡ (front ++ codes "\n") ++ rest → HasNoLineFeed front → length front < 1024 → text ≡ front ++ codes "\n"
 
+-- a byte of a number, of a word in small letters, or a blank
+abbrev pub is_of_line : ℕ → Bool
+is_of_line byte = byte == 32 || nat_le 48 byte && nat_le byte 57 || nat_le 97 byte && nat_le byte 122
+
+abbrev pub are_of_line : List ℕ → Bool
+are_of_line [] = true
+are_of_line (byte ∷ bytes) = is_of_line byte && are_of_line bytes
+
+-- bytes that may be the beginning of a line that isn't written whole: each is of a line, none is LF, and they are fewer than a line may have
+abbrev pub IsTorn : List ℕ → Type 0
+IsTorn bytes = HasNoLineFeed bytes × (length bytes < 1024) × (are_of_line bytes ≡ true)
+
+-- There was no other line: the reader was at its end; or, if lines may still be written, had at most the torn beginning of one.
+abbrev pub EndsLines : Bool → Option (List ℕ) → Option (List ℕ) → Type 0
+EndsLines false old new = WasAtEnd old new
+EndsLines true old new = Tells old → Tells new × (known new ≡ []) × IsTorn (known old)
+
 -- ---- a check
 
 -- The index is these lines, and the findings those on the recording; `more` says whether the recording goes on after them.
@@ -65,36 +82,36 @@ pub record HasLooked (n offset : ℕ) (l : Line) (bytes : List ℕ) (found found
   pub told : FindsMore found found' findings
   pub are : (IsGood n offset l.text bytes × (findings ≡ [])) ⊎ ((IsGood n offset l.text bytes → ⊥) × ((finding : Finding) × (findings ≡ finding ∷ []) × IsOf n offset l bytes finding))
 
--- So far n lines were read, the codestream of the next one begins at this offset, and what is wrong with the bytes before it was found.
--- What is found in the rest adds to these findings.
-pub record HasChecked (index index' recording recording' : Option (List ℕ)) (found found' : Option (List Finding)) (n offset damaged : ℕ) : Type 0 where
+-- So far the lines from the first one on were read, of which the codestream begins at `start`; line n is the next one, and its codestream
+-- begins at this offset. What is wrong with the bytes between these was found, and what is found in the rest adds to these findings.
+pub record HasChecked (first start : ℕ) (index index' recording recording' : Option (List ℕ)) (found found' : Option (List Finding)) (n offset damaged : ℕ) : Type 0 where
   pub lines : List Line
-  pub count : length lines ≡ n
-  pub few : length lines ≤ most_frames
-  pub size : size_of lines ≡ offset
-  pub more_lines : (more : List Line) → AreLines n offset more → AreLines 0 0 (lines ++ more)
+  pub count : first + length lines ≡ n
+  pub few : first + length lines ≤ most_frames
+  pub size : start + size_of lines ≡ offset
+  pub more_lines : (more : List Line) → AreLines n offset more → AreLines first start (lines ++ more)
   pub gave : Gave index index' (λ bytes. bytes ≡ texts lines)
   pub findings : List Finding
   pub damaged_are : length findings ≡ damaged
   pub told : FindsMore found found' findings
   pub tells : Tells recording → Tells recording'
   pub more_found : Tells recording → (more : List Line) (besides : List Finding) → AreFound n offset more (known recording') besides
-      → AreFound 0 0 (lines ++ more) (known recording) (findings ++ besides)
-  pub left : Tells recording → known recording' ≡ drop offset (known recording)
+      → AreFound first start (lines ++ more) (known recording) (findings ++ besides)
+  pub left : Tells recording → known recording' ≡ drop (size_of lines) (known recording)
 
 -- ---- where a check stops
 
--- The index begins with m lines, the findings are those on them, and P holds of the lines' total size and of what follows them in the
--- index.
-pub record StopsAfter (index recording : Option (List ℕ)) (found found' : Option (List Finding)) (m : ℕ) (P : ℕ → List ℕ → Type 0) : Type 0 where
+-- The index begins with the lines from the first one on and before line m, the first one's codestream begins at `start`, the findings are
+-- those on these lines, and P holds of their total size and of what follows them in the index.
+pub record StopsAfter (first start : ℕ) (index recording : Option (List ℕ)) (found found' : Option (List Finding)) (m : ℕ) (P : ℕ → List ℕ → Type 0) : Type 0 where
   pub lines : List Line
-  pub are_lines : AreLines 0 0 lines
-  pub count : length lines ≡ m
-  pub few : length lines ≤ most_frames
+  pub are_lines : AreLines first start lines
+  pub count : first + length lines ≡ m
+  pub few : first + length lines ≤ most_frames
   pub begins : Tells index → (rest : List ℕ) × (known index ≡ texts lines ++ rest) × P (size_of lines) rest
   pub findings : List Finding
   pub told : FindsMore found found' findings
-  pub are_found : Tells recording → AreFound 0 0 lines (known recording) findings
+  pub are_found : Tells recording → AreFound first start lines (known recording) findings
 
 -- the bytes begin with the line n, whose codestream begins at this offset
 abbrev pub BeginsWithLine : ℕ → ℕ → List ℕ → Type 0
@@ -115,11 +132,11 @@ GoesOn recording offset rest = HasBytes rest ⊎ (Tells recording → offset < l
 -- What each fault says: the line of this number isn't a line of an index; a read failed; an allocation failed, which it never does when
 -- all was read; there is one line more than an index may have.
 abbrev pub Stops : Option (List ℕ) → Option (List ℕ) → Option (List Finding) → Option (List Finding) → CheckFault → Type 0
-Stops index recording found found' (fault.Line n) = StopsAfter index recording found found' n (BeginsOtherwise n)
-Stops index recording found found' fault.IndexIo = (m : ℕ) × StopsAfter index recording found found' m Anything
-Stops index recording found found' fault.Io = (m : ℕ) × StopsAfter index recording found found' m Anything
-Stops index recording found found' fault.NoMemory = (m : ℕ) × StopsAfter index recording found found' m (GoesOn recording)
-Stops index recording found found' fault.TooMany = StopsAfter index recording found found' most_frames (BeginsWithLine most_frames)
+Stops index recording found found' (fault.Line n) = StopsAfter 0 0 index recording found found' n (BeginsOtherwise n)
+Stops index recording found found' fault.IndexIo = (m : ℕ) × StopsAfter 0 0 index recording found found' m Anything
+Stops index recording found found' fault.Io = (m : ℕ) × StopsAfter 0 0 index recording found found' m Anything
+Stops index recording found found' fault.NoMemory = (m : ℕ) × StopsAfter 0 0 index recording found found' m (GoesOn recording)
+Stops index recording found found' fault.TooMany = StopsAfter 0 0 index recording found found' most_frames (BeginsWithLine most_frames)
 
 -- ---- where a read failed
 
@@ -143,8 +160,8 @@ FailsInBytes index' recording recording' n offset rest =
 -- read, or whose bytes couldn't. What each reader has left, and the findings, come before and after.
 abbrev pub Fails : Option (List ℕ) → Option (List ℕ) → Option (List ℕ) → Option (List ℕ) → Option (List Finding) → Option (List Finding) → CheckFault → Type 0
 Fails index index' recording recording' found found' (fault.Line n) = Unit {0}
-Fails index index' recording recording' found found' fault.IndexIo = (m : ℕ) × StopsAfter index recording found found' m (FailsInLine index')
-Fails index index' recording recording' found found' fault.Io = (m : ℕ) × StopsAfter index recording found found' m (FailsInBytes index' recording recording' m)
+Fails index index' recording recording' found found' fault.IndexIo = (m : ℕ) × StopsAfter 0 0 index recording found found' m (FailsInLine index')
+Fails index index' recording recording' found found' fault.Io = (m : ℕ) × StopsAfter 0 0 index recording found found' m (FailsInBytes index' recording recording' m)
 Fails index index' recording recording' found found' fault.NoMemory = Unit {0}
 Fails index index' recording recording' found found' fault.TooMany = Unit {0}
 
@@ -163,6 +180,14 @@ StopsReading recording recording' most fault.IndexIo = ⊥
 StopsReading recording recording' most fault.Io = Gave recording recording' (λ front. length front < most)
 StopsReading recording recording' most fault.NoMemory = HadBytes recording
 StopsReading recording recording' most fault.TooMany = ⊥
+
+-- The bytes of the index from a line on aren't the torn beginning of one, if that isn't taken for a line, and the fault is of the line.
+abbrev pub IsUntorn : Bool → Option (List ℕ) → CheckFault → Type 0
+IsUntorn growing index (fault.Line n) = growing ≡ true → Tells index → IsTorn (known index) → ⊥
+IsUntorn growing index fault.IndexIo = Unit {0}
+IsUntorn growing index fault.Io = Unit {0}
+IsUntorn growing index fault.NoMemory = Unit {0}
+IsUntorn growing index fault.TooMany = Unit {0}
 
 -- whether a check failed because a read of the index did, and because a read of the recording did
 abbrev pub blames_index : CheckFault → Bool

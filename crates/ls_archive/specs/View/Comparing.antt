@@ -8,7 +8,7 @@ use Rattle.ls_film.specs.View.Sources.{GivesImage}
 use Rattle.ls_archive.specs.declared.faults.VerifyFault.{VerifyFault}
 use Rattle.ls_archive.specs.declared.verifying.Verdict.{Verdict}
 use Rattle.ls_film.specs.View.Steps.{failed_by}
-use Rattle.ls_archive.specs.View.Verifying.{Finds, IsCompared, blames_recording}
+use Rattle.ls_archive.specs.View.Verifying.{Finds, HaveRun, IsCompared, blames_recording}
 
 module _ {S : Type 0} (stands : S → Option (List ℕ) → Option (List ℕ) → Type 0) where
   -- what the next codestream gives: its frame, or nothing at the end
@@ -24,6 +24,10 @@ module _ {S : Type 0} (stands : S → Option (List ℕ) → Option (List ℕ) �
   -- what a verdict says, where the source stands in the end, or at the end of its reader
   abbrev pub HasFound : Option (List ℕ) → Option (List ℕ) → Option (List ℕ) → Option (List ℕ) → S → Verdict → Type 0
   HasFound film film' place read source verdict = (place' : Option (List ℕ)) × Finds film film' place place' verdict × (stands source place' read ⊎ (place' ≡ read))
+
+  -- Both gave the same n frames so far, and the source stands after them.
+  abbrev pub HasRunTo : Option (List ℕ) → Option (List ℕ) → Option (List ℕ) → Option (List ℕ) → S → ℕ → Type 0
+  HasRunTo film film' place read source n = (place' : Option (List ℕ)) × stands source place' read × HaveRun film film' place place' n
 
 -- What a verdict says, but for the recording's place: it may have been read further.
 abbrev pub FindsAhead : Option (List ℕ) → Option (List ℕ) → Option (List ℕ) → Verdict → Type 0

@@ -164,6 +164,22 @@ StopsRecording recording n (RecordingIo m) = m ≡ n
 StopsRecording recording n NoMemory = Tells recording → HasBytes (known recording)
 StopsRecording recording n TooMany = ⊥
 
+-- ---- numbers
+
+-- the number that a verdict says, and the number of the frame at fault
+abbrev pub number_of : Verdict → ℕ
+number_of (Same n) = n
+number_of (Differs n what) = n
+number_of (Missing n) = n
+number_of (Extra n) = n
+
+abbrev pub number_in : VerifyFault → ℕ
+number_in (Film m fault) = m
+number_in (Recording m fault) = m
+number_in (RecordingIo m) = m
+number_in NoMemory = 0
+number_in TooMany = 0
+
 -- ---- failed reads
 
 -- what a failed read of the recording says: it gave codestreams of as many frames as were compared, and no whole one after them

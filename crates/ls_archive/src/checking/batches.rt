@@ -7,7 +7,7 @@ ghost use Rattle.ls_archive.specs.declared.checking.Finding.{Finding};
 ghost use Rattle.ls_archive.specs.View.Batches.{Place, IsTaken, ComesAfter, IsBatch, IsLooked, HasCheckedTo, LeadsOn, LeadsSomewhere, fails_index, fails_recording};
 
 use crate::checking::{
-    CheckFault, Damage, Findings, IndexLine, has_more, next_line, take_bytes, tell_damage,
+    CheckFault, Damage, Findings, IndexLine, next_written, take_bytes, tell_damage,
 };
 use ls_frame::Feed;
 use std::alloc::{AllocError, Global};
@@ -47,24 +47,25 @@ pub struct Batch {
 pub enum After {
     /// Nothing after them was read yet.
     More,
-    /// The end of the index, and whether the recording goes on there.
-    End(bool),
+    /// The end of the index.
+    End,
     /// The fault for which a check stops.
     Fault(CheckFault),
 }
 
 /// Takes `most` lines off an index, or those before its end or a fault if there are fewer, with the bytes of their
-/// codestreams.
+/// codestreams. With `growing` the index may end within a line.
 pub fn take<I: Feed, R: Feed>(
     alloc: Global,
     index: &mut I,
     recording: &mut R,
     so_far: SoFar,
     most: u64,
+    growing: bool,
 ) -> Batch
     requires few { so_far.number + most ≤ most_frames }
     requires bounded { so_far.offset ≤ 2 ^ 32 * so_far.number }
-    ensures batch { IsBatch
+    ensures batch { IsBatch growing
         (record { index = I.remaining index.old; recording = R.remaining recording.old; number = so_far.number; offset = so_far.offset })
         (I.remaining index.new) (R.remaining recording.new) result }
     ensures few { length result.jobs.items ≤ most }
@@ -76,7 +77,7 @@ pub fn take<I: Feed, R: Feed>(
     let mut jobs = Vec::new(alloc);
     let mut offset = so_far.offset;
     for number in so_far.number..so_far.number + most {
-        match next_job(alloc, index, recording, number, offset) {
+        match next_job(alloc, index, recording, number, offset, growing) {
             Ok(job) => {
                 offset += u64::from(job.line.size);
                 if jobs.push(job).is_err() {
@@ -102,12 +103,13 @@ fn next_job<I: Feed, R: Feed>(
     recording: &mut R,
     number: u64,
     offset: u64,
+    growing: bool,
 ) -> Result<Listed, After>
     ensures taken { IfOk result (λ job. IsTaken
         (record { index = I.remaining index.old; recording = R.remaining recording.old; number = number; offset = offset })
         (record { index = I.remaining index.new; recording = R.remaining recording.new; number = number + 1; offset = offset + job.line.size })
         job) }
-    ensures after { IfErr result (ComesAfter
+    ensures after { IfErr result (ComesAfter growing
         (record { index = I.remaining index.old; recording = R.remaining recording.old; number = number; offset = offset })
         (I.remaining index.new) (R.remaining recording.new)) }
     ensures known { IfErr result (λ after. after ≢ After.More) }
@@ -116,14 +118,9 @@ fn next_job<I: Feed, R: Feed>(
     ensures reads { MatchResult result (λ _. R.failed_reads recording.new ≡ R.failed_reads recording.old)
         (λ after. R.failed_reads recording.new ≡ count_after (fails_recording after) (R.failed_reads recording.old)) }
 {
-    let line = match next_line(alloc, index, number, offset) {
+    let line = match next_written(alloc, index, number, offset, growing) {
         Ok(Some(line)) => line,
-        Ok(None) => {
-            return match has_more(alloc, recording) {
-                Ok(more) => Err(After::End(more)),
-                Err(fault) => Err(After::Fault(fault)),
-            };
-        }
+        Ok(None) => return Err(After::End),
         Err(fault) => return Err(After::Fault(fault)),
     };
     match take_bytes(alloc, recording, line.size as usize) {
@@ -167,9 +164,9 @@ fn tell_of<F: Findings>(job: &Listed, so_far: SoFar, findings: &mut F) -> Result
     requires few { so_far.number < most_frames }
     requires bounded { so_far.offset ≤ 2 ^ 32 * so_far.number }
     requires damaged { so_far.damaged ≤ so_far.number }
-    ensures told { (index recording : Option (List ℕ)) (found : Option (List Finding)) (at next : Place)
-        → HasCheckedTo index recording found (F.found findings.old) at so_far → IsLooked at next job.now
-        → IfOk result (HasCheckedTo index recording found (F.found findings.new) next) }
+    ensures told { (first start : ℕ) (index recording : Option (List ℕ)) (found : Option (List Finding)) (at next : Place)
+        → HasCheckedTo first start index recording found (F.found findings.old) at so_far → IsLooked at next job.now
+        → IfOk result (HasCheckedTo first start index recording found (F.found findings.new) next) }
     ensures none { OnErr result (F.found findings.new ≡ F.found findings.old) }
     ensures memory { OnErr result (job.now.damage ≢ Ok None) }
     ensures number { IfOk result (λ done. done.number ≡ so_far.number + 1) }

@@ -123,8 +123,14 @@ pub fn sure_zeros(rt: &impl Abort, maxval: u16, k: u32) -> u32 {
     SureZeros::new(&Presets::default_of(maxval)).of(k)
 }
 
-/// Decodes a sample from a value that is sure to have one.
-pub fn accept_sure(rt: &impl Abort, state: &mut State, around: Around, value: u32) -> u16 {
+/// Decodes a sample from a value that is sure to have one, with the presets passed by value or not.
+pub fn accept_sure(
+    rt: &impl Abort,
+    state: &mut State,
+    around: Around,
+    value: u32,
+    by_value: bool,
+) -> u16 {
     let neighbours = neighbours_of(around);
     check_samples(rt, state, &neighbours);
     check_regular(rt, &neighbours);
@@ -133,6 +139,10 @@ pub fn accept_sure(rt: &impl Abort, state: &mut State, around: Around, value: u3
     let plan = state.plan_regular(&neighbours);
     let k = plan.k();
     check(rt, value >> k < sure.of(k));
+    if by_value {
+        let presets = *state.presets();
+        return state.accept_sure_with(presets, plan, value);
+    }
     state.accept_sure(plan, value)
 }
 

@@ -98,7 +98,7 @@ module _ (words : ArgMatches) where
 
   -- the request that the words of the command of this name make
   abbrev pub Asks : List ℕ → Request → Type 0
-  Asks name (request.List file) = (name ≡ codes "list") × HasText (codes "FILE") (Some file.now)
+  Asks name (request.List file json) = (name ≡ codes "list") × HasText (codes "FILE") (Some file.now) × IsGiven (codes "json") json
   Asks name (request.Code file index) = (name ≡ codes "code") × HasText (codes "FILE") (Some file.now) × HasText (codes "index") (text_in index)
   Asks name (request.Play file frames workers) =
       (name ≡ codes "play") × HasFile file.now × AsksFrames frames × AsksWorkers workers × IsGiven (codes "salvage") false
@@ -112,18 +112,26 @@ module _ (words : ArgMatches) where
   Asks name (request.Salvage file index) =
       (name ≡ codes "play") × HasFile file.now × HasText (codes "index") (text_in index) × IsGiven (codes "salvage") true
       × HasText (codes "frames") None × HasText (codes "into") None
-  Asks name (request.Index file sums) =
-      (name ≡ codes "index") × HasFile file.now × IsGiven (codes "no-sums") (not sums) × IsGiven (codes "beside") false
+  Asks name (request.Index file sums json) =
+      (name ≡ codes "index") × HasFile file.now × IsGiven (codes "no-sums") (not sums) × IsGiven (codes "beside") false × IsGiven (codes "json") json
   Asks name (request.IndexBeside files sums) =
       (name ≡ codes "index") × (texts_of files.items ≡ files_in) × IsGiven (codes "no-sums") (not sums) × IsGiven (codes "beside") true
-  Asks name (request.Check file index workers strict) =
+      × IsGiven (codes "json") false
+  Asks name (request.Check file index workers strict json) =
       (name ≡ codes "check") × HasFile file.now × HasText (codes "index") (text_in index) × IsGiven (codes "beside") false × AsksWorkers workers
-      × IsGiven (codes "strict") strict × IfNone index (workers ≤ 1)
-  Asks name (request.CheckEach files beside workers strict) =
+      × IsGiven (codes "strict") strict × IsGiven (codes "json") json × IfNone index (workers ≤ 1) × HasText (codes "frames") None
+  Asks name (request.CheckPart file index frames workers json) =
+      (name ≡ codes "check") × HasFile file.now × HasText (codes "index") (Some index.now) × AsksFrames (Some frames) × IsGiven (codes "beside") false
+      × AsksWorkers workers × IsGiven (codes "strict") false × IsGiven (codes "json") json
+  Asks name (request.CheckEach files beside workers strict json) =
       (name ≡ codes "check") × (texts_of files.items ≡ files_in) × HasText (codes "index") None × IsGiven (codes "beside") beside × AsksWorkers workers
-      × IsGiven (codes "strict") strict × (beside ≡ false → workers ≤ 1)
+      × IsGiven (codes "strict") strict × IsGiven (codes "json") json × (beside ≡ false → workers ≤ 1) × HasText (codes "frames") None
   Asks name (request.Verify pairs workers strict) =
       (name ≡ codes "verify") × ArePairsOf pairs.items × ReadsNumber (2 ^ 8) (codes "workers") (Some workers) × IsGiven (codes "strict") strict
+      × HasText (codes "frames") None
+  Asks name (request.VerifyPart film file frames) =
+      (name ≡ codes "verify") × HasText (codes "FILM") (Some film.now) × HasFile file.now × AsksFrames (Some frames)
+      × ((workers : ℕ) × AsksWorkers workers × (workers ≤ 1)) × IsGiven (codes "strict") false
   Asks name (request.Record asked) = (name ≡ codes "record") × AsksRecording asked
   Asks name (request.Replay sources capacity file) =
       (name ≡ codes "replay") × HasText (codes "FILE") (Some file.now) × ReadsNumber (2 ^ 8) (codes "sources") (Some sources)

@@ -29,6 +29,8 @@ pub struct Shared<'s, Rt, G> {
     /// A flag for each source: whether no thread could be made for its lane.
     pub refused: &'s [AtomicBool],
     pub window: usize,
+    /// Whether the scans of a colour frame are coded side by side.
+    pub splits: bool,
 }
 
 /// The seats of a queue, its closer, and the boxes.

@@ -44,6 +44,7 @@ pub fn start_workers<'s, E, Rt: Threads + Wait + Sync, G: Gate>(
     let alloc = shared.alloc;
     let queue = shared.queue;
     let gate = shared.gate;
+    let splits = shared.splits;
     while !seats.is_empty() {
         let seat = seats.remove(0);
         let outbox = outboxes.remove(0);
@@ -55,7 +56,7 @@ pub fn start_workers<'s, E, Rt: Threads + Wait + Sync, G: Gate>(
             move || -> Worked
                 requires { IsWorkerSeat queue.now seat × (sources_of queue.now ≤ length outbox.senders.items) }
                 ensures { IsWorked queue.entry.now result }
-            { work(rt, alloc, queue, seat, outbox, gate) },
+            { work(rt, alloc, queue, seat, outbox, gate, splits) },
         );
         match started {
             Ok(handle) => working.push_reserved(handle),

@@ -1,6 +1,7 @@
 //! The report as JSON (RFC 8259), for programs.
 use super::ended::{Ended, UNSYNCED};
 use crate::watching::seen::Seen;
+use ls_console::Quoted;
 use std::alloc::{AllocError, Global};
 
 /// Begins a report.
@@ -94,17 +95,6 @@ fn seconds(alloc: Global, nanoseconds: u64) -> Result<String, AllocError> {
 
 /// Adds a text as a string of JSON.
 fn add_text(alloc: Global, report: &mut String, text: &str) -> Result<(), AllocError> {
-    report.push('"')?;
-    for character in text.chars() {
-        match character {
-            '"' => report.push_str("\\\"")?,
-            '\\' => report.push_str("\\\\")?,
-            ' '.. => report.push(character)?,
-            _ => {
-                let escaped = format!(in alloc; "\\u{:04x}", character as u32)?;
-                report.push_str(&escaped)?;
-            }
-        }
-    }
-    report.push('"')
+    let quoted = Quoted(text).to_string(alloc)?;
+    report.push_str(&quoted)
 }

@@ -1,4 +1,4 @@
-//! The progress of all films, in a line.
+//! The progress of all films, in a line or in one for each.
 use super::pace::Pace;
 use ls_console::Shown;
 use std::alloc::{AllocError, Global};
@@ -8,6 +8,9 @@ const LINES_A_FILM: usize = 4;
 
 /// The least characters of a name that are shown, or all of a shorter one, however narrow the line.
 const LEAST_NAME: usize = 8;
+
+/// The code of the first character that takes two columns of a terminal (Unicode's East Asian Width).
+const FIRST_WIDE: u32 = 0x1100;
 
 /// The marks in a line: before the end of a name that is shortened, after each name, and between films.
 const CUT: &str = "..";
@@ -43,6 +46,91 @@ pub fn line_of(
         columns,
     };
     line_from(alloc, films, first)
+}
+
+/// A progress line for each film, of at most `columns` characters or columns of a terminal.
+///
+/// If a film doesn't fit, its name is shortened to its end, to `LEAST_NAME` columns at least; and if that doesn't suffice,
+/// the line has as many parts of its progress as fit, or a part of the first.
+pub fn lines_of(
+    alloc: Global,
+    files: &[&str],
+    paces: &[Pace],
+    columns: usize,
+) -> Result<Vec<String>, AllocError> {
+    let mut lines = Vec::new(alloc);
+    for (file, pace) in files.iter().zip(paces.iter()) {
+        lines.push(line_of_film(alloc, *file, pace.text(), columns)?)?;
+    }
+    Ok(lines)
+}
+
+/// The progress line of a film.
+fn line_of_film(
+    alloc: Global,
+    file: &str,
+    progress: &str,
+    columns: usize,
+) -> Result<String, AllocError> {
+    let name = Shown(file).to_string(alloc)?;
+    let others = AFTER_NAME.len().saturating_add(progress.len());
+    let room = columns.saturating_sub(others).max(LEAST_NAME);
+    let mut line = String::new(alloc);
+    push_ending(&mut line, &name, room)?;
+    line.push_str(AFTER_NAME)?;
+    line.push_str(progress)?;
+    cut(alloc, fitting(&line, columns), columns)
+}
+
+/// As much of a text as takes at most `columns` columns.
+fn cut(alloc: Global, text: &str, columns: usize) -> Result<String, AllocError> {
+    let mut cut = String::new(alloc);
+    let mut left = columns;
+    for character in text.chars() {
+        match left.checked_sub(width(character)) {
+            Some(rest) => left = rest,
+            None => break,
+        }
+        cut.push(character)?;
+    }
+    Ok(cut)
+}
+
+/// Adds a name, or `..` and its end if it takes more than `room` columns.
+fn push_ending(line: &mut String, name: &str, room: usize) -> Result<(), AllocError> {
+    let mut over = width_of(name).saturating_sub(room);
+    if over == 0 {
+        return line.push_str(name);
+    }
+    line.push_str(CUT)?;
+    over = over.saturating_add(CUT.len());
+    for character in name.chars() {
+        if over > 0 {
+            over = over.saturating_sub(width(character));
+        } else {
+            line.push(character)?;
+        }
+    }
+    Ok(())
+}
+
+/// The most columns of a terminal that a text takes.
+fn width_of(text: &str) -> usize {
+    let mut columns: usize = 0;
+    for character in text.chars() {
+        columns = columns.saturating_add(width(character));
+    }
+    columns
+}
+
+/// The most columns that a character takes: two, if it may be among those that are as wide as they are high. These all
+/// have codes from that of the first one on.
+fn width(character: char) -> usize {
+    if u32::from(character) < FIRST_WIDE {
+        1
+    } else {
+        2
+    }
 }
 
 /// The films for a line of `columns` characters, with at most `longest` characters of each name.
@@ -188,12 +276,12 @@ fn add_film(line: &mut String, film: &str, columns: usize) -> Result<bool, Alloc
     Ok(true)
 }
 
-/// The beginning of a film's text that fits into `columns` characters: as many of its parts, which are between
+/// The beginning of a film's text that fits into `columns` columns: as many of its parts, which are between
 /// commas, as fit, and one at least.
 fn fitting(film: &str, columns: usize) -> &str {
     let mut kept = film;
     for _part in 0..film.len() {
-        if kept.chars().count() <= columns {
+        if width_of(kept) <= columns {
             break;
         }
         match kept.rsplit_once(", ") {

@@ -1,9 +1,9 @@
 //! The thread that keeps the time of a recording and says progress: it ends the recording once that is due, wakes lanes
-//! whose pipes no one has opened, and writes to standard error: on a terminal a progress line, elsewhere lines. It waits
-//! for no disk.
+//! whose pipes no one has opened, and writes to standard error: on a terminal progress in its place, elsewhere lines. It
+//! waits for no disk.
 use super::Watch;
 use super::keeping::may_be_stop;
-use super::line::line_of;
+use super::line::{line_of, lines_of};
 use super::pace::Pace;
 use super::schedule::Deadline;
 use crate::ending::say_count;
@@ -100,8 +100,8 @@ struct Progress<'s> {
     paces: Vec<Pace>,
     /// When it was said last.
     said: u64,
-    /// The number of lines that were shown before.
-    lines: usize,
+    /// How often it was said.
+    times: usize,
 }
 
 impl<'s> Progress<'s> {
@@ -116,11 +116,11 @@ impl<'s> Progress<'s> {
             files,
             paces,
             said: now,
-            lines: 0,
+            times: 0,
         })
     }
 
-    /// Says how far each film is, if that is due: on a terminal in a line, elsewhere of each film whose progress in
+    /// Says how far each film is, if that is due: on a terminal in its place, elsewhere of each film whose progress in
     /// words has changed.
     fn tell<R: Clock, E: Outlet>(&mut self, watch: &Watch<'_, R>, console: &mut Console<E>) {
         let now = watch.now();
@@ -128,9 +128,9 @@ impl<'s> Progress<'s> {
         if time >= DUE {
             let _refused = self.look(watch, now, time, console);
             if console.is_terminal() {
-                let _refused = self.show_line(console);
+                let _refused = self.show(console);
             }
-            self.lines = self.lines.wrapping_add(1);
+            self.times = self.times.wrapping_add(1);
             self.said = now;
         }
     }
@@ -157,16 +157,18 @@ impl<'s> Progress<'s> {
         Ok(())
     }
 
-    /// Shows the progress of all films in a line.
-    fn show_line<E: Outlet>(&self, console: &mut Console<E>) -> Result<(), AllocError> {
-        let line = line_of(
-            self.alloc,
-            self.files,
-            &self.paces,
-            self.lines,
-            console.columns(),
-        )?;
-        console.show(&line);
+    /// Shows the progress of all films in a line; or in a line for each, if the terminal is high enough.
+    fn show<E: Outlet>(&self, console: &mut Console<E>) -> Result<(), AllocError> {
+        match console.columns_of_all(self.files.len()) {
+            Some(columns) => {
+                let line = line_of(self.alloc, self.files, &self.paces, self.times, columns)?;
+                console.show(&line);
+            }
+            None => {
+                let lines = lines_of(self.alloc, self.files, &self.paces, console.columns())?;
+                console.show_lines(&lines);
+            }
+        }
         Ok(())
     }
 }

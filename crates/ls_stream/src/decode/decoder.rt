@@ -14,7 +14,7 @@ ghost use Rattle.ls_stream.specs.View.BitFaults.{BreaksSample, BreaksInterruptio
 ghost use Rattle.ls_stream.specs.View.Decoding.{ReadsRun, ReadsNoRun};
 
 use ls_bits::{BitPlace, BitSource, CodeFault};
-use ls_coding::{Neighbours, Regions, State, SureZeros, whole_context};
+use ls_coding::{Neighbours, Regions, RegionsView, State, SureZeros};
 use ls_frame::Presets;
 use std::marker::Model;
 
@@ -25,7 +25,7 @@ pub struct Decoder<'a, 'b> {
     /// Bits per mapped error (qbpp).
     qbpp: u32,
     /// The regions of all gradients.
-    regions: &'a Regions,
+    regions: RegionsView<'a>,
     /// For each Golomb parameter, which words of regular mode surely stand for samples.
     sure: &'a SureZeros,
     /// References, so that the rest of the decoder can be in registers.
@@ -43,7 +43,7 @@ impl<'a, 'b> Model for Decoder<'a, 'b> {
 
     ghost view = { λ d. record { state = d.state.now; bits = bits_in d.source.now; source = d.source.now } };
 
-    ghost invariant = { λ d. (d.state.now.parameters ≡ d.presets) × (d.qbpp ≡ qbpp_of d.presets.maxval) × IsLegal d.presets × (d.regions.now ≡ d.presets)
+    ghost invariant = { λ d. (d.state.now.parameters ≡ d.presets) × (d.qbpp ≡ qbpp_of d.presets.maxval) × IsLegal d.presets × (d.regions ≡ d.presets)
         × (d.sure.now ≡ d.presets) };
 }
 
@@ -75,7 +75,7 @@ impl<'a, 'b> Decoder<'a, 'b> {
         Decoder {
             presets: *presets,
             qbpp: presets.qbpp(),
-            regions,
+            regions: regions.view(),
             sure,
             state,
             source,
@@ -122,7 +122,7 @@ impl<'a, 'b> Decoder<'a, 'b> {
         ensures value { result ≡ signed_context self.now.state.parameters neighbours.now }
         ensures run { is_zero result ≡ is_run neighbours.now }
     {
-        whole_context(self.regions, half, neighbours.a, neighbours.c)
+        self.regions.whole_context(half, neighbours.a, neighbours.c)
     }
 
     /// Decodes a sample in regular mode, whose context and median are given, at the place `at`, and moves `at` past it.
@@ -156,11 +156,13 @@ impl<'a, 'b> Decoder<'a, 'b> {
             → ⊥) }
         ensures fault { IfErr result (λ fault. BreaksSample self.old.state neighbours.now (bits_at self.old.source at.old) fault) }
     {
-        let plan = self.state.plan_regular_at(context, middle, neighbours);
+        let plan = self
+            .state
+            .plan_regular_with(self.presets, context, middle, neighbours);
         let k = plan.k();
         if let Some((value, after)) = self.source.few_at(*at, k, self.sure.of(k)) {
             *at = after;
-            return Ok(self.state.accept_sure(plan, value));
+            return Ok(self.state.accept_sure_with(self.presets, plan, value));
         }
         self.source.go_to(*at);
         let value = self.source.take_golomb(k, self.presets.limit(), self.qbpp)?;

@@ -1,148 +1,45 @@
-use Rattle.std.proofs.Common.{◌≡◌, inl, refl, sym, subst, arith, rules}
-use Rattle.std.specs.List.{AllZip}
 use Rattle.std.proofs.lemmas.Result.{err_from_is_err_and}
-use Rattle.ls_film.specs.Film.{most_frames}
-use Rattle.ls_archive.specs.View.Batches.{IsLookedAt}
-use Rattle.ls_archive.proofs.BatchLemmas.{told-batch, stops-batch, reads-beyond, several-jobs, more-reads-no-index, more-reads-no-recording, more-comes, end-comes, fault-comes, failure-comes}
-use Rattle.ls_archive.proofs.CheckLemmas.{checked-none}
+use Rattle.ls_archive.proofs.CheckLemmas.{fails-lines}
 use Rattle.ls_archive.proofs.checking.check_all.Goals as goal
-
-pub loop-so_far-init : goal.loop-so_far-init
-loop-so_far-init g c = record { so_far = checked-none _ _ _; few = omega arith; bounded = omega arith; damaged = omega arith; index_reads = refl; reads = refl }
-
-pub take-batch-requires-clause-few : goal.take-batch-requires-clause-few
-take-batch-requires-clause-few g c = omega (arith, c.min-most.ensures)
-
-pub take-batch-requires-clause-bounded : goal.take-batch-requires-clause-bounded
-take-batch-requires-clause-bounded g c = c.loop-so_far.invariant.bounded
-
-pub tell_all-requires-clause-bounded : goal.tell_all-requires-clause-bounded
-tell_all-requires-clause-bounded g c = c.loop-so_far.invariant.bounded
-
-pub tell_all-requires-clause-damaged : goal.tell_all-requires-clause-damaged
-tell_all-requires-clause-damaged g c = c.loop-so_far.invariant.damaged
-
-pub returns-in_err-so_far-clause-stops : goal.returns-in_err-so_far-clause-stops
-returns-in_err-so_far-clause-stops g c =
-    let p = err_from_is_err_and c.from_residual.result c.from_residual.ensures.1 in
-    let i = c.loop-so_far.invariant in
-    let looked = subst (AllZip IsLookedAt c.take-batch.result.jobs.items) (sym c.deref.ensures.value) c.look_at_all.ensures in
-    rw (p.1, p.2)
-    (stops-batch (g.I.Read.remaining c.args.index.now) (g.R.Read.remaining c.args.recording.now) (g.F.Findings.found c.args.findings.now)
-    (g.F.Findings.found c.loop-so_far.findings) (g.F.Findings.found c.tell_all.new.findings) c.loop-so_far.so_far
-    (g.I.Read.remaining c.loop-so_far.index) (g.R.Read.remaining c.loop-so_far.recording) (g.I.Read.remaining c.take-batch.new.index) (g.R.Read.remaining c.take-batch.new.recording)
-    c.take-batch.result c.deref.result.now i.so_far c.take-batch.ensures.batch looked
-    c.in_err-so_far.ensures.stops)
-
-pub returns-in-End-clause-checked : goal.returns-in-End-clause-checked
-returns-in-End-clause-checked g c =
-    let i = c.loop-so_far.invariant in
-    let looked = subst (AllZip IsLookedAt c.take-batch.result.jobs.items) (sym c.deref.ensures.value) c.look_at_all.ensures in
-    let told = told-batch (g.I.Read.remaining c.args.index.now) (g.R.Read.remaining c.args.recording.now) (g.F.Findings.found c.args.findings.now)
-    (g.F.Findings.found c.loop-so_far.findings) (g.F.Findings.found c.tell_all.new.findings) c.loop-so_far.so_far
-    (g.I.Read.remaining c.loop-so_far.index) (g.R.Read.remaining c.loop-so_far.recording) (g.I.Read.remaining c.take-batch.new.index) (g.R.Read.remaining c.take-batch.new.recording)
-    c.take-batch.result c.deref.result.now i.so_far c.take-batch.ensures.batch looked
-    c.in_ok-so_far.so_far c.in_ok-so_far.ensures.told in
-    end-comes (g.I.Read.remaining c.args.index.now) (g.R.Read.remaining c.args.recording.now) (g.F.Findings.found c.args.findings.now) (g.F.Findings.found c.tell_all.new.findings) c.in_ok-so_far.so_far told.0
-    (g.I.Read.remaining c.take-batch.new.index) (g.R.Read.remaining c.take-batch.new.recording) told.1
-    c.take-batch.result.after told.2 c.in-End.more c.in-End.is
-
-pub returns-in-Fault-clause-stops : goal.returns-in-Fault-clause-stops
-returns-in-Fault-clause-stops g c =
-    let i = c.loop-so_far.invariant in
-    let looked = subst (AllZip IsLookedAt c.take-batch.result.jobs.items) (sym c.deref.ensures.value) c.look_at_all.ensures in
-    let told = told-batch (g.I.Read.remaining c.args.index.now) (g.R.Read.remaining c.args.recording.now) (g.F.Findings.found c.args.findings.now)
-    (g.F.Findings.found c.loop-so_far.findings) (g.F.Findings.found c.tell_all.new.findings) c.loop-so_far.so_far
-    (g.I.Read.remaining c.loop-so_far.index) (g.R.Read.remaining c.loop-so_far.recording) (g.I.Read.remaining c.take-batch.new.index) (g.R.Read.remaining c.take-batch.new.recording)
-    c.take-batch.result c.deref.result.now i.so_far c.take-batch.ensures.batch looked
-    c.in_ok-so_far.so_far c.in_ok-so_far.ensures.told in
-    fault-comes (g.I.Read.remaining c.args.index.now) (g.R.Read.remaining c.args.recording.now) (g.F.Findings.found c.args.findings.now) (g.F.Findings.found c.tell_all.new.findings) c.in_ok-so_far.so_far told.0
-    (g.I.Read.remaining c.take-batch.new.index) (g.R.Read.remaining c.take-batch.new.recording) told.1
-    c.take-batch.result.after told.2 c.in-Fault.fault c.in-Fault.is
-
-pub returns-in-Fault-clause-fails : goal.returns-in-Fault-clause-fails
-returns-in-Fault-clause-fails g c =
-    let i = c.loop-so_far.invariant in
-    let looked = subst (AllZip IsLookedAt c.take-batch.result.jobs.items) (sym c.deref.ensures.value) c.look_at_all.ensures in
-    let told = told-batch (g.I.Read.remaining c.args.index.now) (g.R.Read.remaining c.args.recording.now) (g.F.Findings.found c.args.findings.now)
-    (g.F.Findings.found c.loop-so_far.findings) (g.F.Findings.found c.tell_all.new.findings) c.loop-so_far.so_far
-    (g.I.Read.remaining c.loop-so_far.index) (g.R.Read.remaining c.loop-so_far.recording) (g.I.Read.remaining c.take-batch.new.index) (g.R.Read.remaining c.take-batch.new.recording)
-    c.take-batch.result c.deref.result.now i.so_far c.take-batch.ensures.batch looked
-    c.in_ok-so_far.so_far c.in_ok-so_far.ensures.told in
-    failure-comes (g.I.Read.remaining c.args.index.now) (g.R.Read.remaining c.args.recording.now) (g.F.Findings.found c.args.findings.now) (g.F.Findings.found c.tell_all.new.findings) c.in_ok-so_far.so_far told.0
-    (g.I.Read.remaining c.take-batch.new.index) (g.R.Read.remaining c.take-batch.new.recording) told.1
-    c.take-batch.result.after told.2 c.in-Fault.fault c.in-Fault.is
-
-pub loop-so_far-preserved : goal.loop-so_far-preserved
-loop-so_far-preserved g c =
-    let i = c.loop-so_far.invariant in
-    let looked = subst (AllZip IsLookedAt c.take-batch.result.jobs.items) (sym c.deref.ensures.value) c.look_at_all.ensures in
-    let told = told-batch (g.I.Read.remaining c.args.index.now) (g.R.Read.remaining c.args.recording.now) (g.F.Findings.found c.args.findings.now)
-    (g.F.Findings.found c.loop-so_far.findings) (g.F.Findings.found c.tell_all.new.findings) c.loop-so_far.so_far
-    (g.I.Read.remaining c.loop-so_far.index) (g.R.Read.remaining c.loop-so_far.recording) (g.I.Read.remaining c.take-batch.new.index) (g.R.Read.remaining c.take-batch.new.recording)
-    c.take-batch.result c.deref.result.now i.so_far c.take-batch.ensures.batch looked
-    c.in_ok-so_far.so_far c.in_ok-so_far.ensures.told in
-    record {
-      so_far = more-comes (g.I.Read.remaining c.args.index.now) (g.R.Read.remaining c.args.recording.now) (g.F.Findings.found c.args.findings.now) (g.F.Findings.found c.tell_all.new.findings) c.in_ok-so_far.so_far told.0
-          (g.I.Read.remaining c.take-batch.new.index) (g.R.Read.remaining c.take-batch.new.recording) told.1 c.take-batch.result.after told.2 c.in-More.is;
-      few = search rules;
-      bounded = c.in_ok-so_far.ensures.bounded;
-      damaged = c.in_ok-so_far.ensures.damaged;
-      index_reads = search rules;
-      reads = search rules;
-    }
-
-pub returns-clause-checked : goal.returns-clause-checked
-returns-clause-checked g c =
-    let all : c.loop-so_far.so_far.number ≡ most_frames = omega arith in
-    c.end_at_most.ensures.checked (g.I.Read.remaining c.args.index.now) (g.R.Read.remaining c.args.recording.now) (g.F.Findings.found c.args.findings.now)
-    (g.F.Findings.found c.loop-so_far.findings) (rw all at c.loop-so_far.invariant.so_far)
-
-pub returns-clause-stops : goal.returns-clause-stops
-returns-clause-stops g c =
-    let all : c.loop-so_far.so_far.number ≡ most_frames = omega arith in
-    c.end_at_most.ensures.stops (g.I.Read.remaining c.args.index.now) (g.R.Read.remaining c.args.recording.now) (g.F.Findings.found c.args.findings.now)
-    (g.F.Findings.found c.loop-so_far.findings) (rw all at c.loop-so_far.invariant.so_far)
 
 pub returns-in_err-so_far-clause-fails : goal.returns-in_err-so_far-clause-fails
 returns-in_err-so_far-clause-fails g c =
     let p = err_from_is_err_and c.from_residual.result c.from_residual.ensures.1 in
-    rw (p.1, p.2) tt
+    rw (p.1, p.2) (fails-lines (g.I.Read.remaining c.args.index.now) (g.I.Read.remaining c.check_lines.new.index) (g.R.Read.remaining c.args.recording.now)
+    (g.R.Read.remaining c.check_lines.new.recording) (g.F.Findings.found c.args.findings.now) (g.F.Findings.found c.check_lines.new.findings) _ c.in_err-so_far.ensures.fails)
 
-pub returns-clause-fails : goal.returns-clause-fails
-returns-clause-fails g c =
-    let all : c.loop-so_far.so_far.number ≡ most_frames = omega arith in
-    c.end_at_most.ensures.fails (g.I.Read.remaining c.args.index.now) (g.R.Read.remaining c.args.recording.now) (g.F.Findings.found c.args.findings.now)
-    (g.F.Findings.found c.loop-so_far.findings) (rw all at c.loop-so_far.invariant.so_far)
+pub returns-then-ended-clause-checked : goal.returns-then-ended-clause-checked
+returns-then-ended-clause-checked g c =
+    let run = c.in_ok-so_far.ensures.checked in
+    c.end_of.ensures.checked _ run.mid (g.I.Read.remaining c.check_lines.new.index) _ _ _ run.checked (run.end c.if-ended.true)
 
-pub returns-in_err-so_far-clause-index_reads : goal.returns-in_err-so_far-clause-index_reads
-returns-in_err-so_far-clause-index_reads g c =
-    let p = err_from_is_err_and c.from_residual.result c.from_residual.ensures.1 in
-    let looked = subst (AllZip IsLookedAt c.take-batch.result.jobs.items) (sym c.deref.ensures.value) c.look_at_all.ensures in
-    rw (p.1, p.2) (reads-beyond g.L.Looking.most _ _ _ (rw c.loop-so_far.invariant.index_reads at c.take-batch.ensures.index_reads)
-    (λ failed. several-jobs c.take-batch.result.jobs.items c.deref.result.now c.min-most.result g.L.Looking.most (c.take-batch.ensures.lacks (more-reads-no-index c.take-batch.result.after failed)) looked c.in_err-so_far.ensures.some (omega (arith, c.min-most.ensures, c.batch.ensures.few))))
+pub returns-then-ended-clause-stops : goal.returns-then-ended-clause-stops
+returns-then-ended-clause-stops g c =
+    let run = c.in_ok-so_far.ensures.checked in
+    c.end_of.ensures.stops _ run.mid (g.I.Read.remaining c.check_lines.new.index) _ _ _ run.checked (run.end c.if-ended.true)
 
-pub returns-in-End-clause-index_reads : goal.returns-in-End-clause-index_reads
-returns-in-End-clause-index_reads g c = inl (rw (c.in-End.is, c.loop-so_far.invariant.index_reads) at c.take-batch.ensures.index_reads)
+pub returns-then-ended-clause-fails : goal.returns-then-ended-clause-fails
+returns-then-ended-clause-fails g c =
+    let run = c.in_ok-so_far.ensures.checked in
+    c.end_of.ensures.fails _ run.mid (g.I.Read.remaining c.check_lines.new.index) _ _ _ run.checked (run.end c.if-ended.true)
 
-pub returns-in-Fault-clause-index_reads : goal.returns-in-Fault-clause-index_reads
-returns-in-Fault-clause-index_reads g c = inl (rw (c.in-Fault.is, c.loop-so_far.invariant.index_reads) at c.take-batch.ensures.index_reads)
+pub end_at_most-requires : goal.end_at_most-requires
+end_at_most-requires g c = c.in_ok-so_far.ensures.all c.if-ended.false
 
-pub returns-clause-index_reads : goal.returns-clause-index_reads
-returns-clause-index_reads g c = inl (rw c.loop-so_far.invariant.index_reads at c.end_at_most.ensures.index_reads)
+pub returns-else-ended-clause-checked : goal.returns-else-ended-clause-checked
+returns-else-ended-clause-checked g c =
+    let run = c.in_ok-so_far.ensures.checked in
+    let here = rw (run.unread c.if-ended.false) at run.checked in
+    c.end_at_most.ensures.checked _ _ _ _ here
 
-pub returns-in_err-so_far-clause-reads : goal.returns-in_err-so_far-clause-reads
-returns-in_err-so_far-clause-reads g c =
-    let p = err_from_is_err_and c.from_residual.result c.from_residual.ensures.1 in
-    let looked = subst (AllZip IsLookedAt c.take-batch.result.jobs.items) (sym c.deref.ensures.value) c.look_at_all.ensures in
-    rw (p.1, p.2) (reads-beyond g.L.Looking.most _ _ _ (rw c.loop-so_far.invariant.reads at c.take-batch.ensures.reads)
-    (λ failed. several-jobs c.take-batch.result.jobs.items c.deref.result.now c.min-most.result g.L.Looking.most (c.take-batch.ensures.lacks (more-reads-no-recording c.take-batch.result.after failed)) looked c.in_err-so_far.ensures.some (omega (arith, c.min-most.ensures, c.batch.ensures.few))))
+pub returns-else-ended-clause-stops : goal.returns-else-ended-clause-stops
+returns-else-ended-clause-stops g c =
+    let run = c.in_ok-so_far.ensures.checked in
+    let here = rw (run.unread c.if-ended.false) at run.checked in
+    c.end_at_most.ensures.stops _ _ _ _ here
 
-pub returns-in-End-clause-reads : goal.returns-in-End-clause-reads
-returns-in-End-clause-reads g c = inl (rw (c.in-End.is, c.loop-so_far.invariant.reads) at c.take-batch.ensures.reads)
-
-pub returns-in-Fault-clause-reads : goal.returns-in-Fault-clause-reads
-returns-in-Fault-clause-reads g c = inl (rw (c.in-Fault.is, c.loop-so_far.invariant.reads) at c.take-batch.ensures.reads)
-
-pub returns-clause-reads : goal.returns-clause-reads
-returns-clause-reads g c = inl (rw c.loop-so_far.invariant.reads at c.end_at_most.ensures.reads)
+pub returns-else-ended-clause-fails : goal.returns-else-ended-clause-fails
+returns-else-ended-clause-fails g c =
+    let run = c.in_ok-so_far.ensures.checked in
+    let here = rw (run.unread c.if-ended.false) at run.checked in
+    c.end_at_most.ensures.fails _ _ _ _ here

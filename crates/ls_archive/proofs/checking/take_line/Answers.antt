@@ -1,7 +1,7 @@
 use Rattle.std.proofs.Common.{◌<◌, length, sym, subst, arith, rules}
 use Rattle.ls_archive.specs.View.Checking.{HasNoLineFeed}
 use Rattle.ls_archive.proofs.LineLemmas.{split_last, taken_line}
-use Rattle.ls_archive.proofs.FrontLineLemmas.{front-fed, front-full, front-ended}
+use Rattle.ls_archive.proofs.FrontLineLemmas.{front-fed, front-full, front-ended, fed-whole}
 use Rattle.ls_archive.proofs.checking.take_line.Goals as goal
 
 pub returns-in-Some-eq10-clause-one : goal.returns-in-Some-eq10-clause-one
@@ -34,3 +34,15 @@ pub returns-clause-front : goal.returns-clause-front
 returns-clause-front g c =
     let remaining = g.I.Read.remaining in
     front-full (remaining c.args.reader.now) (remaining c.loop-reader.reader) c.loop-reader.line.items c.loop-reader.invariant.one c.loop-reader.invariant.gave (omega arith)
+
+pub returns-in-Some-eq10-clause-torn : goal.returns-in-Some-eq10-clause-torn
+returns-in-Some-eq10-clause-torn g c = λ torn told.
+    absurd (fed-whole _ _ _ _ _ _ (rw c.in-Some-eq10.is at c.in_ok-feed_until.ensures.taken) c.in-Some-eq10.field-0-test torn.0)
+
+pub returns-in-None-2-clause-torn : goal.returns-in-None-2-clause-torn
+returns-in-None-2-clause-torn g c = λ torn told.
+    let end = rw c.in-None-2.is at c.in_ok-feed_until.ensures.end in
+    (end.1 (c.loop-reader.invariant.gave told).0).2
+
+pub returns-clause-torn : goal.returns-clause-torn
+returns-clause-torn g c = λ torn told. absurd (omega (arith, torn.1))

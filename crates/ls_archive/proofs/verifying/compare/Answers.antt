@@ -1,7 +1,7 @@
 use Rattle.std.proofs.Common.{inr}
 use Rattle.std.proofs.lemmas.Result.{err_from_is_err_and}
 use Rattle.ls_archive.proofs.ComparingLemmas.{compared}
-use Rattle.ls_archive.proofs.VerifyLemmas.{film-unfailed}
+use Rattle.ls_archive.proofs.VerifyLemmas.{film-unfailed, film-number, verdict-number}
 use Rattle.ls_archive.proofs.verifying.compare.Goals as goal
 
 pub returns-clause-compared : goal.returns-clause-compared
@@ -23,3 +23,16 @@ pub returns-in_err-coded-clause-io : goal.returns-in_err-coded-clause-io
 returns-in_err-coded-clause-io g c = λ place is.
     let p = err_from_is_err_and c.from_residual-in_err-coded.result c.from_residual-in_err-coded.ensures.1 in
     rw (p.1, p.2) (c.in_err-coded.ensures.io place is)
+
+pub returns-clause-number : goal.returns-clause-number
+returns-clause-number g c = rw c.verdict_at.ensures (verdict-number c.args.number c.in_ok-image.image c.in_ok-coded.coded)
+
+pub returns-in_err-image-clause-number : goal.returns-in_err-image-clause-number
+returns-in_err-image-clause-number g c =
+    let p = err_from_is_err_and c.from_residual.result c.from_residual.ensures.1 in
+    rw (p.1, p.2) (film-number (g.F.Read.remaining c.args.film.now) c.args.number _ c.in_err-image.ensures.stops)
+
+pub returns-in_err-coded-clause-number : goal.returns-in_err-coded-clause-number
+returns-in_err-coded-clause-number g c =
+    let p = err_from_is_err_and c.from_residual-in_err-coded.result c.from_residual-in_err-coded.ensures.1 in
+    rw (p.1, p.2) c.in_err-coded.ensures.number

@@ -1,6 +1,6 @@
 use Rattle.std.proofs.Common.{refl}
 use Rattle.ls_film.specs.declared.codestreams.Unread.TheVariants.{Stream, Io}
-use Rattle.ls_archive.proofs.VerifyLemmas.{coded-unfailed}
+use Rattle.ls_archive.proofs.VerifyLemmas.{coded-unfailed, coded-number}
 use Rattle.ls_archive.proofs.ComparingLemmas.{stops-ahead}
 use Rattle.ls_archive.proofs.verifying.next_coded.Goals as goal
 
@@ -20,3 +20,6 @@ returns-in-Err-Io-clause-io g c = λ place is.
     let read = g.R.Read.remaining c.next.new.reader in
     let given = rw c.in-Err-Io.field-0-is at (c.in-Err-Io.ensures.gives place is) in
     (refl, g.met.S.Recorded.unread_is Io place read given.2)
+
+pub returns-in-Err-Stream-clause-number : goal.returns-in-Err-Stream-clause-number
+returns-in-Err-Stream-clause-number g c = rw c.of_recording.ensures (coded-number c.args.number c.in-Err-Stream.fault)

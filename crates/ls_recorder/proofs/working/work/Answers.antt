@@ -22,7 +22,7 @@ loop-preserved g c =
         | then-is_ok w ↦ one-more _ _ _ _ _ _ size (w.coded-is ∙ w.saturating_add-coded.ensures) inv.coded
         | else-is_ok w ↦ omega (arith, inv.coded, size, w.coded-is)
       ];
-      answered = answers-sent _ _ _ _ _ _ _ _ inv.answered c.in-Job.job c.in-Job.ensures.taken.2 c.make-answer.result c.make-answer.ensures (search rules) refl;
+      answered = answers-sent _ _ _ _ _ _ _ _ inv.answered c.in-Job.job c.in-Job.ensures.taken.2 c.code-answer.result c.code-answer.ensures (search rules) refl;
     }
 
 pub loop-preserved-then-is_err : goal.loop-preserved-then-is_err

@@ -41,5 +41,5 @@ returns-then-is_err-clause-batch g c =
     record {
       mid = mid;
       taken = rw unpushed c.loop-number.invariant.taken;
-      after = inl (had-line mid.index (g.I.Read.remaining c.next_job.new.index) mid.number mid.offset (line_of c.in-Ok.job.line) taken.is taken.gave);
+      after = inl (had-line mid.index (g.I.Read.remaining c.next_job.new.index) mid.number mid.offset (line_of c.in-Ok.job.line) taken.is taken.gave, tt);
     }

@@ -15,7 +15,7 @@ invariant-ones l = record {
   parameters : l.self-inside.state.now.parameters ≡ l.self-inside.presets;
   qbpp : l.self-inside.qbpp ≡ qbpp_of l.self-inside.presets.maxval;
   legal : IsLegal l.self-inside.presets;
-  regions : l.self-inside.regions.now ≡ l.self-inside.presets;
+  regions : l.self-inside.regions ≡ l.self-inside.presets;
   sure : l.self-inside.sure.now ≡ l.self-inside.presets;
   breaks : (fault : CodeFault) → BreaksRun l.self-inside.state.now.run_index (l.left - l.count) (bits_in l.self-inside.source.now) fault → BreaksRun l.fn.self.state.run_index l.left l.fn.self.bits fault;
   in_run : IsInRun l.left l.count l.fn.self.state.run_index l.self-inside.state.now.run_index l.fn.self.bits (bits_in l.self-inside.source.now);
