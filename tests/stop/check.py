@@ -491,12 +491,13 @@ def services():
 
 
 def on_a_terminal(columns, variables, act, *words):
-    """Runs a recording on a terminal of so many columns, and returns what is shown there, and its status."""
+    """Runs a recording on a terminal of so many columns, too low for a line a film, and returns what is shown there, and its status."""
     process, terminal = pty.fork()
     if process == 0:
         os.environ.pop("COLUMNS", None)
+        os.environ.pop("LINES", None)
         os.environ.update(variables)
-        fcntl.ioctl(2, termios.TIOCSWINSZ, struct.pack("HHHH", 24, columns, 0, 0))
+        fcntl.ioctl(2, termios.TIOCSWINSZ, struct.pack("HHHH", 23, columns, 0, 0))
         os.execv(PROGRAM, [PROGRAM, "record", *words])
     shown = []
 
