@@ -1,34 +1,32 @@
-//! The commands `index`, `check` and `verify`: a recording is listed, checked for damage, and compared with its film.
-ghost use Rattle.std.specs.Prelude.{◌≡◌, ◌⊎◌, true, false, None, IfOk, IfErr, IfSome, IfNone, length};
+//! The commands `index` and `check`: a recording is listed, and looked through for damage.
+ghost use Rattle.std.specs.Prelude.{◌≡◌, ◌⊎◌, true, None, IfOk, IfErr, IfSome, IfNone, length};
 ghost use Rattle.ls_frame.specs.View.Chunks.{left_in, inner_reader};
 ghost use Rattle.ls_frame.specs.View.Devices.{count_after, wrapped};
 ghost use Rattle.ls_film.specs.View.Steps.{failed_by};
 ghost use Rattle.ls_archive.specs.View.Checks.{IsChecked, Stops as StopsCheck, blames_recording};
-ghost use Rattle.ls_archive.specs.View.Comparing.{FindsAhead};
 ghost use Rattle.ls_archive.specs.View.Indexing.{Completes as Indexes, Stops as StopsIndex};
 ghost use Rattle.ls_archive.specs.View.Places.{AreStanding};
-ghost use Rattle.ls_archive.specs.View.Verifying.{Stops as StopsComparison};
 ghost use Rattle.ls_console.specs.View.Readers.{unread};
-ghost use Rattle.ls_reading.specs.View.Commands.{HasNoGaps, HasStrictCodestreams, HaveSameFrames, IsSearched, PassesCheck, WritesIndexOf};
-ghost use Rattle.ls_reading.specs.View.Statuses.{DoneOrFailed, verdict_status};
+ghost use Rattle.ls_reading.specs.View.Commands.{HasNoGaps, HasStrictCodestreams, IsSearched, PassesCheck, WritesIndexOf};
+ghost use Rattle.ls_reading.specs.View.Statuses.{DoneOrFailed};
 
 use crate::asked::Asked;
 use crate::cause::conclude;
+use crate::report::{Form, Report, finish_report, form_of};
 use crate::strict::look_strict;
 use core::mem::replace_with;
 use ls_archive::{
-    CheckFault, Checked, Difference, Finding, Findings, IndexFault, Verdict, VerifyFault, Wanted,
-    check, check_by, find_places, verify, verify_by, write_index,
+    CheckFault, Checked, Finding, Findings, IndexFault, Wanted, check, check_by, find_places,
+    write_index,
 };
 use ls_console::{
-    Cause, Column, Console, DONE, FAILED, Lines, Objects, Program, Quoted, Reader, Shown, explain,
-    finish, finish_lines, line_buffer, no_memory, open_film, say_unwritten,
+    Cause, Column, Console, DONE, FAILED, Lines, Objects, Program, Reader, Shown, explain, finish,
+    finish_lines, line_buffer, no_memory, open_film,
 };
 use ls_files::Opens;
-use ls_frame::{Buffered, Counted, Feed, Kind, Outlet, write_bytes};
-use ls_salvage::{Gap, Gaps, NoText, SalvageFault, Salvaged, salvage};
+use ls_frame::{Buffered, Counted, Feed, Outlet};
+use ls_salvage::{Gaps, NoText, SalvageFault, Salvaged, salvage};
 use std::alloc::{AllocError, Global};
-use std::fmt::Display;
 use std::fs;
 use std::io::Write;
 use std::rt::Files;
@@ -217,28 +215,6 @@ pub struct Checks {
     pub form: Form,
 }
 
-/// The form of the lines of a check.
-#[derive(Clone, Copy)]
-pub enum Form {
-    /// Texts.
-    Plain,
-    /// Texts that begin with the recording's name, since the lines of others are written too.
-    Named,
-    /// Objects of JSON.
-    Json,
-}
-
-/// The form of the lines of a check: JSON if that is asked for, else with names if there are several recordings.
-pub fn form_of(json: bool, several: bool) -> Form {
-    if json {
-        Form::Json
-    } else if several {
-        Form::Named
-    } else {
-        Form::Plain
-    }
-}
-
 /// Looks for damage in a recording, by its index if one is named, and then with this number of workers that decode.
 /// Writes a line for each finding, through a buffer; with `json` an object of JSON. With `strict` also looks, if nothing is
 /// damaged, whether each codestream is strict.
@@ -282,13 +258,7 @@ where
         form: form_of(json, false),
     };
     let status = check_lined(lined, file, index, asked);
-    let status = if Outlet::failures(&lines) > 0 {
-        say_unwritten(lines.last_failure(), console)
-    } else {
-        status
-    };
-    let (_output, status) = finish_lines(status, lines, console);
-    status
+    finish_report(status, lines, console)
 }
 
 /// Looks for damage in a recording likewise, over any output, whose failures aren't looked at, and which isn't flushed.
@@ -417,14 +387,6 @@ where
     };
     let recording = open_film(alloc, opener, file, console)?;
     find_all(alloc, file, recording, &wanted, end, console)
-}
-
-/// The place at which a codestream was found, unless it is its own: one at its own place is damaged itself.
-fn elsewhere(found: Option<u64>, own: u64) -> Option<u64> {
-    match found {
-        Some(place) if place != own => Some(place),
-        _ => None,
-    }
 }
 
 /// Converts findings to the codestreams that are looked for.
@@ -580,355 +542,4 @@ fn decode_only<R: Feed, G: Gaps>(
 {
     let mut nothing = Counted::new(Vec::new(alloc));
     salvage::<NoText, _, _, _>(alloc, recording, &mut nothing, gaps)
-}
-
-/// Compares a recording, decoded by this number of workers, with its film, and says where they differ. With `strict`
-/// also looks, if they don't, whether each codestream is strict.
-pub fn verify_files<R, O, W, E>(
-    program: Program<'_, R, O, W, E>,
-    film: &str,
-    recording: &str,
-    workers: u8,
-    strict: bool,
-) -> u8
-where
-    R: AllocGlobal + Files + Threads + Sync,
-    O: Opens + Copy + Drop,
-    W: Write,
-    E: Outlet,
-    ensures status { DoneOrFailed result }
-    ensures same { result ≡ DONE → HaveSameFrames O.holds program.entry.opener film.now recording.now }
-    ensures strict { result ≡ DONE → strict ≡ true → HasStrictCodestreams O.holds program.entry.opener recording.now }
-{
-    let Program {
-        rt,
-        opener,
-        output,
-        console,
-    } = program;
-    if strict && !is_read_twice(rt, recording, "--strict", console) {
-        return FAILED;
-    }
-    let comparing = Program {
-        rt,
-        opener,
-        output,
-        console: &mut *console,
-    };
-    let status = compare_files(comparing, film, recording, workers);
-    if strict && status == DONE {
-        look_strict(rt.alloc(), opener, recording, console)
-    } else {
-        status
-    }
-}
-
-/// Compares a recording, decoded by this number of workers, with its film, and says where they differ.
-fn compare_files<R, O, W, E>(
-    program: Program<'_, R, O, W, E>,
-    film: &str,
-    recording: &str,
-    workers: u8,
-) -> u8
-where
-    R: AllocGlobal + Threads + Sync,
-    O: Opens + Copy + Drop,
-    W: Write,
-    E: Outlet,
-    ensures status { DoneOrFailed result }
-    ensures same { result ≡ DONE → HaveSameFrames O.holds program.entry.opener film.now recording.now }
-{
-    let Program {
-        rt,
-        opener,
-        console,
-        ..
-    } = program;
-    let alloc = rt.alloc();
-    let mut images = match open_film(alloc, opener, film, console) {
-        Ok(images) => images,
-        Err(status) => return status,
-    };
-    let mut codestreams = match open_film(alloc, opener, recording, console) {
-        Ok(codestreams) => codestreams,
-        Err(status) => return status,
-    };
-    match verify_lent(rt, alloc, workers, &mut images, &mut codestreams) {
-        Ok(verdict) => say_verdict(recording, verdict, console),
-        Err(fault @ VerifyFault::Film(..)) => conclude(film, Err(fault), &images, None, console),
-        Err(fault) => conclude(recording, Err(fault), &codestreams, None, console),
-    }
-}
-
-/// Compares a recording with its film, over any readers, with this number of workers that decode.
-fn verify_lent<Rt: Threads + Sync, F: Feed, R: Feed>(
-    rt: &Rt,
-    alloc: Global,
-    workers: u8,
-    film: &mut F,
-    recording: &mut R,
-) -> Result<Verdict, VerifyFault>
-    ensures finds { IfOk result (FindsAhead (F.remaining film.old) (F.remaining film.new) (R.remaining recording.old)) }
-    ensures stops { IfErr result (StopsComparison (F.remaining film.old) (R.remaining recording.old)) }
-{
-    let workers = usize::from(workers);
-    if workers > 1 {
-        verify_by(rt, alloc, workers, film, recording)
-    } else {
-        verify(alloc, film, recording)
-    }
-}
-
-/// Says how a recording differs from its film, if it does, and returns the status.
-pub fn say_verdict<E: Outlet>(recording: &str, verdict: Verdict, console: &mut Console<E>) -> u8
-    ensures { result ≡ verdict_status verdict }
-{
-    let recording = Shown(recording);
-    match verdict {
-        Verdict::Same(_frames) => return DONE,
-        Verdict::Differs(number, difference) => {
-            say_difference(recording, number, difference, console);
-        }
-        Verdict::Missing(number) => {
-            console.say(format_args!("{recording}: frame {number} is missing"));
-        }
-        Verdict::Extra(number) => {
-            console.say(format_args!("{recording}: frame {number} is too many"));
-        }
-    }
-    FAILED
-}
-
-/// Says how the frame of this number of a recording differs from that of its film, the recording's value first.
-fn say_difference<E: Outlet>(
-    recording: Shown<'_>,
-    number: u64,
-    difference: Difference,
-    console: &mut Console<E>,
-) {
-    match difference {
-        Difference::Kinds(film, own) => {
-            let film = kind_text(film);
-            let own = kind_text(own);
-            console.say(format_args!("{recording}: frame {number} differs: {own}, not {film}"));
-        }
-        Difference::Sizes(width, height, own_width, own_height) => console.say(format_args!(
-            "{recording}: frame {number} differs: size {own_width}x{own_height}, not {width}x{height}"
-        )),
-        Difference::Maxvals(film, own) => console.say(format_args!(
-            "{recording}: frame {number} differs: maxval {own}, not {film}"
-        )),
-        Difference::Samples => {
-            console.say(format_args!("{recording}: frame {number} differs: samples"));
-        }
-    }
-}
-
-fn kind_text(kind: Kind) -> &'static str {
-    match kind {
-        Kind::Gray => "gray",
-        Kind::Color => "color",
-    }
-}
-
-/// Writes the lines of a check.
-#[derive(Drop)]
-pub struct Report<'l, L> {
-    alloc: Global,
-    /// The recording's name.
-    file: &'l str,
-    lines: &'l mut L,
-    form: Form,
-    /// The number of gaps reported so far.
-    gaps: u64,
-}
-
-impl<'l, L: Outlet> Report<'l, L> {
-    pub fn new(alloc: Global, file: &'l str, lines: &'l mut L, form: Form) -> Report<'l, L> {
-        Report {
-            alloc,
-            file,
-            lines,
-            form,
-            gaps: 0,
-        }
-    }
-
-    /// Writes a line. A failure is seen at the end.
-    fn write<D: Display + Drop>(&mut self, text: D) -> Result<(), AllocError> {
-        let line = format!(in self.alloc; "{text}\n")?;
-        let _refused = write_bytes(self.lines, line.as_bytes());
-        Ok(())
-    }
-
-    /// Writes a line about a frame, after the recording's name if lines begin with that.
-    fn write_of_frame<D: Display + Drop>(&mut self, text: D) -> Result<(), AllocError> {
-        if matches!(self.form, Form::Named) {
-            let file = Shown(self.file);
-            self.write(format_args!("{file}: {text}"))
-        } else {
-            self.write(text)
-        }
-    }
-
-    /// Writes the object of a damaged codestream of this number: the fault, and the bytes from an offset on.
-    fn write_fault<D: Display + Drop>(
-        &mut self,
-        number: u64,
-        fault: D,
-        count: u64,
-        place: u64,
-    ) -> Result<(), AllocError> {
-        let fault = format!(in self.alloc; "{fault}")?;
-        let (file, fault) = (Quoted(self.file), Quoted(&fault));
-        self.write(format_args!(
-            "{{\"file\": {file}, \"frame\": {number}, \"fault\": {fault}, \"bytes\": {count}, \"offset\": {place}}}"
-        ))
-    }
-
-    /// Writes the object of a codestream of this number that was found at another place.
-    fn write_moved(
-        &mut self,
-        number: u64,
-        count: u64,
-        place: u64,
-        stands: u64,
-    ) -> Result<(), AllocError> {
-        let file = Quoted(self.file);
-        self.write(format_args!(
-            "{{\"file\": {file}, \"frame\": {number}, \"fault\": \"moved\", \"bytes\": {count}, \"offset\": {place}, \"found\": {stands}}}"
-        ))
-    }
-
-    /// Writes a line for each finding, with the place at which its codestream was found, if there is one, and then
-    /// the totals. Returns the status.
-    pub fn end_by<E: Outlet>(
-        &mut self,
-        checked: Checked,
-        findings: &[Finding],
-        places: &[Option<u64>],
-        console: &mut Console<E>,
-    ) -> u8
-        ensures status { DoneOrFailed result }
-        ensures good { result ≡ DONE → (checked.damaged ≡ 0) × (checked.more ≡ false) }
-    {
-        match self.write_all(findings, places) {
-            Ok(moved) => self.end(checked, moved, console),
-            Err(AllocError) => no_memory(console),
-        }
-    }
-
-    /// Writes a line for each finding; the status if memory runs out.
-    pub fn tell_all<E: Outlet>(
-        &mut self,
-        findings: &[Finding],
-        console: &mut Console<E>,
-    ) -> Option<u8>
-        ensures { IfSome result (λ status. status ≡ FAILED) }
-    {
-        match self.write_all(findings, &[]) {
-            Ok(_moved) => None,
-            Err(AllocError) => Some(no_memory(console)),
-        }
-    }
-
-    /// Writes a line for each finding, with its place or without, and returns the number of those that have one.
-    fn write_all(
-        &mut self,
-        findings: &[Finding],
-        places: &[Option<u64>],
-    ) -> Result<u64, AllocError> {
-        let mut moved = 0u64;
-        for (number, finding) in findings.iter().enumerate() {
-            let stands = match places.get(number) {
-                Some(found) => elsewhere(*found, finding.place),
-                None => None,
-            };
-            self.write_finding(finding, stands)?;
-            if stands.is_some() {
-                moved = moved.saturating_add(1);
-            }
-        }
-        Ok(moved)
-    }
-
-    /// Writes the line of a finding, whose codestream was found at another place, or nowhere.
-    fn write_finding(&mut self, finding: &Finding, stands: Option<u64>) -> Result<(), AllocError> {
-        let Finding {
-            number,
-            place,
-            count,
-            damage,
-            ..
-        } = *finding;
-        let is_json = matches!(self.form, Form::Json);
-        match stands {
-            Some(stands) if is_json => self.write_moved(number, count, place, stands),
-            Some(stands) => {
-                self.write_of_frame(format_args!("frame {number}: at {stands}, not {place}"))
-            }
-            None if is_json => self.write_fault(number, damage, count, place),
-            None => {
-                self.write_of_frame(format_args!(
-                    "frame {number}: {damage}: {count} bytes at {place}"
-                ))
-            }
-        }
-    }
-
-    /// Writes the totals of a check; `moved` of the damaged codestreams were found elsewhere. Returns the status.
-    fn end<E: Outlet>(&mut self, checked: Checked, moved: u64, console: &mut Console<E>) -> u8
-        ensures status { DoneOrFailed result }
-        ensures good { result ≡ DONE → (checked.damaged ≡ 0) × (checked.more ≡ false) }
-    {
-        match self.write_end(checked, moved) {
-            Ok(()) if checked.damaged == 0 && !checked.more => DONE,
-            Ok(()) => FAILED,
-            Err(AllocError) => no_memory(console),
-        }
-    }
-
-    fn write_end(&mut self, checked: Checked, moved: u64) -> Result<(), AllocError> {
-        let frames = checked.frames;
-        let damaged = checked.damaged.saturating_sub(moved);
-        if matches!(self.form, Form::Json) {
-            let (file, more) = (Quoted(self.file), checked.more);
-            return self.write(format_args!(
-                "{{\"file\": {file}, \"frames\": {frames}, \"damaged\": {damaged}, \"moved\": {moved}, \"more_bytes\": {more}}}"
-            ));
-        }
-        let file = Shown(self.file);
-        if checked.more {
-            self.write(format_args!("{file}: more bytes than the index has"))?;
-        }
-        if moved > 0 {
-            return self.write(format_args!(
-                "{file}: {frames} frames, {damaged} damaged, {moved} moved"
-            ));
-        }
-        self.write(format_args!("{file}: {frames} frames, {damaged} damaged"))
-    }
-}
-
-impl<'l, L: Outlet> Gaps for Report<'l, L> {
-    ghost use Rattle.std.specs.Prelude.{None};
-
-    ghost told = { λ _. None };
-
-    fn tell(&mut self, gap: Gap) -> Result<(), AllocError> {
-        let Gap {
-            frame,
-            place,
-            count,
-            fault,
-        } = gap;
-        let number = frame.saturating_add(self.gaps);
-        self.gaps = self.gaps.saturating_add(1);
-        if matches!(self.form, Form::Json) {
-            return self.write_fault(number, fault, count, place);
-        }
-        self.write_of_frame(format_args!(
-            "frame {number}: {fault}: {count} bytes at {place} passed over"
-        ))
-    }
 }

@@ -3,7 +3,9 @@ ghost use Rattle.std.specs.Prelude.{◌≡◌, ◌⊎◌, All, IfOk, ◌++◌, c
 ghost use Rattle.ls_reading.specs.View.Each.{IsSound, IsOfFilm};
 ghost use Rattle.ls_reading.specs.View.Statuses.{DoneOrFailed};
 
-use crate::archive::{Checks, check_lined, form_of, verify_files};
+use crate::archive::{Checks, check_lined};
+use crate::comparing::verify_files;
+use crate::report::form_of;
 use ls_console::{
     Console, DONE, FAILED, Lines, Program, Shown, line_buffer, no_memory, say_unwritten, write_text,
 };

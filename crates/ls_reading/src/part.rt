@@ -6,18 +6,17 @@ ghost use Rattle.ls_reading.specs.View.Commands.{IsPart};
 ghost use Rattle.ls_reading.specs.View.Parts.{PassesPartCheck, HaveSamePart};
 ghost use Rattle.ls_reading.specs.View.Statuses.{DoneOrFailed};
 
-use crate::archive::{
-    Checks, Report, find_moved, form_of, is_of_index, is_read_twice, say_verdict,
-};
+use crate::archive::{Checks, find_moved, is_of_index, is_read_twice};
 use crate::cause::conclude;
+use crate::comparing::say_verdict;
 use crate::listed::lines_from;
+use crate::report::{Report, finish_report, form_of};
 use ls_archive::{
     CheckFault, CheckPartFault, Checked, Finding, Findings, Verdict, VerifyFault, VerifyPartFault,
     check_listed, check_listed_by, verify_part,
 };
 use ls_console::{
-    DONE, FAILED, Lines, Program, finish_lines, line_buffer, no_memory, open_film, open_from,
-    say_unwritten,
+    DONE, FAILED, Lines, Program, line_buffer, no_memory, open_film, open_from,
 };
 use ls_files::Opens;
 use ls_film::{MOST_FRAMES, Part};
@@ -68,13 +67,7 @@ where
         form: form_of(json, false),
     };
     let status = check_part_lined(lined, file, index, part, asked);
-    let status = if Outlet::failures(&lines) > 0 {
-        say_unwritten(lines.last_failure(), console)
-    } else {
-        status
-    };
-    let (_output, status) = finish_lines(status, lines, console);
-    status
+    finish_report(status, lines, console)
 }
 
 /// Looks for damage in a part of a recording likewise, over any output, whose failures aren't looked at, and which isn't

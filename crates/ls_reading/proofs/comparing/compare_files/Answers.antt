@@ -1,5 +1,5 @@
 use Rattle.ls_reading.proofs.StatusLemmas.{same-frames}
-use Rattle.ls_reading.proofs.archive.compare_files.Goals as goal
+use Rattle.ls_reading.proofs.comparing.compare_files.Goals as goal
 
 pub returns-in-Ok-verify_lent-clause-same : goal.returns-in-Ok-verify_lent-clause-same
 returns-in-Ok-verify_lent-clause-same g c = λ done.
