@@ -14,7 +14,7 @@ _jlsrec() {
         ;;
     record)
         options+=' --workers --queue --window --preset --into --replace --progress --report --index --times'
-        options+=' --count --for --keep-open --sync'
+        options+=' --pieces --count --for --keep-open --sync'
         ;;
     play) options+=' --into --frames --salvage --index --workers' ;;
     verify) options+=' --frames --workers --strict' ;;
@@ -25,7 +25,7 @@ _jlsrec() {
     replay) options+=' --sources --capacity' ;;
     esac
     case $before in
-    --workers | --queue | --window | --sources | --capacity | --preset | --frames | --count | --for | --sync) COMPREPLY=() ;;
+    --workers | --queue | --window | --sources | --capacity | --preset | --frames | --pieces | --count | --for | --sync) COMPREPLY=() ;;
     --into) mapfile -t COMPREPLY < <(compgen -d -- "$word") ;;
     *)
         if [[ $word == -* ]]; then

@@ -22,6 +22,7 @@ complete -c jlsrec -n '__fish_seen_subcommand_from record' -l progress -d 'Repor
 complete -c jlsrec -n '__fish_seen_subcommand_from record' -r -l report -d 'The file for a report'
 complete -c jlsrec -n '__fish_seen_subcommand_from record' -l index -d 'Write an index of each recording too'
 complete -c jlsrec -n '__fish_seen_subcommand_from record' -l times -d 'Write when each frame came and was recorded too'
+complete -c jlsrec -n '__fish_seen_subcommand_from record' -x -l pieces -d 'After how many frames, or seconds with s, the next file begins'
 complete -c jlsrec -n '__fish_seen_subcommand_from record' -x -l count -d 'After how many frames each film is read no further'
 complete -c jlsrec -n '__fish_seen_subcommand_from record' -x -l for -d 'After how many seconds all films end'
 complete -c jlsrec -n '__fish_seen_subcommand_from record' -l keep-open -d 'Keep named pipes open when nothing writes to them'

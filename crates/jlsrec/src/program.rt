@@ -29,6 +29,7 @@ where
     R: Env + Host + Clock + Threads + Wait + Sync,
     O: Makes<File = R::File> + Copy + Send,
     R::File: Send + Locks,
+    O::Finished: Send,
     W: Write + Send,
     E: Outlet + Send,
 {
@@ -61,6 +62,7 @@ where
     R: Host + Clock + Threads + Wait + Sync,
     O: Makes<File = R::File> + Copy + Send,
     R::File: Send + Locks,
+    O::Finished: Send,
     W: Write + Send,
     E: Outlet + Send,
 {

@@ -1,3 +1,4 @@
+pub mod CutLemmas
 pub mod FramesLemmas
 pub mod MatchLemmas
 pub mod NumberLemmas

@@ -5,11 +5,12 @@ use Rattle.std.specs.Str.Parse.{ParsesUnsigned}
 use Rattle.clap.specs.declared.parser.matches.ArgMatches.{ArgMatches}
 use Rattle.clap.specs.Matches.{ReadsOne, found_of, first_value, one_text}
 use Rattle.ls_frame.specs.declared.tuning.Tuning.{Tuning}
+use Rattle.ls_command.specs.declared.cut.Cut.{Cut}
 use Rattle.ls_command.specs.declared.Request.{Request}
 use Rattle.ls_command.specs.declared.Request.TheVariants as request
 use Rattle.ls_command.specs.declared.limits.TheConstants.{MOST_FILMS}
 use Rattle.ls_command.specs.View.Asked.{ReadsPreset}
-use Rattle.ls_command.specs.View.Matched.{Asks, AsksToRecord, files_in, texts_of, HasText, ReadsNumber, text_in}
+use Rattle.ls_command.specs.View.Matched.{Asks, AsksPieces, AsksToRecord, files_in, texts_of, HasText, ReadsNumber, text_in}
 
 -- an option that isn't empty has a value
 given : {A B : Type 0} (o : Option A) (b : B) → (o ≡ None → Some b ≡ None) → (a : A) × (o ≡ Some a)
@@ -40,33 +41,34 @@ pub text_is_none : (words : ArgMatches) (name : List ℕ) (found : Option (Bor (
     → HasText words name None
 text_is_none words name found value is = sym value ∙ ap text_in is
 
--- the recording that is asked for, from its settings, its tuning and its films
-pub recording_asked : (words : ArgMatches) (tuning : Tuning) (files : List (Bor (List ℕ))) (preset : Option (Bor (List ℕ))) → HasText words (codes "preset") (text_in preset)
-    → ReadsPreset preset (Some tuning) → texts_of files ≡ files_in words → length files ≤ MOST_FILMS → (asked : Option Request) → IfSome asked (AsksToRecord words tuning files)
+-- the recording that is asked for, from its settings, its tuning, its pieces and its films
+pub recording_asked : (words : ArgMatches) (tuning : Tuning) (pieces : Option Cut) (files : List (Bor (List ℕ))) (preset : Option (Bor (List ℕ))) → HasText words (codes "preset") (text_in preset)
+    → ReadsPreset preset (Some tuning) → AsksPieces words pieces → texts_of files ≡ files_in words → length files ≤ MOST_FILMS → (asked : Option Request) → IfSome asked (AsksToRecord words tuning pieces files)
     → IfSome asked (Asks words (codes "record"))
-recording_asked words tuning files preset text reads named few None has = tt
-recording_asked words tuning files preset text reads named few (Some (request.Record asked)) has = (
+recording_asked words tuning pieces files preset text reads cut named few None has = tt
+recording_asked words tuning pieces files preset text reads cut named few (Some (request.Record asked)) has = (
   refl,
   record {
     settings = has.0;
     preset = preset;
     preset_is = text;
     tuning = subst (λ (t : Tuning). ReadsPreset preset (Some t)) (sym has.1) reads;
-    files = ap texts_of has.2 ∙ named;
-    few = subst (λ (fs : List (Bor (List ℕ))). length fs ≤ MOST_FILMS) (sym has.2) few;
+    pieces = subst (AsksPieces words) (sym has.2) cut;
+    files = ap texts_of has.3 ∙ named;
+    few = subst (λ (fs : List (Bor (List ℕ))). length fs ≤ MOST_FILMS) (sym has.3) few;
   },
 )
-recording_asked words tuning files preset text reads named few (Some (request.List file json)) has = absurd has
-recording_asked words tuning files preset text reads named few (Some (request.Code file index)) has = absurd has
-recording_asked words tuning files preset text reads named few (Some (request.Play file frames workers)) has = absurd has
-recording_asked words tuning files preset text reads named few (Some (request.Listed file index frames)) has = absurd has
-recording_asked words tuning files preset text reads named few (Some (request.PlayInto recordings into frames workers)) has = absurd has
-recording_asked words tuning files preset text reads named few (Some (request.Salvage file index)) has = absurd has
-recording_asked words tuning files preset text reads named few (Some (request.Index file sums json)) has = absurd has
-recording_asked words tuning files preset text reads named few (Some (request.IndexBeside recordings sums)) has = absurd has
-recording_asked words tuning files preset text reads named few (Some (request.Check file index workers strict json)) has = absurd has
-recording_asked words tuning files preset text reads named few (Some (request.CheckPart file index frames workers json)) has = absurd has
-recording_asked words tuning files preset text reads named few (Some (request.CheckEach recordings beside workers strict json)) has = absurd has
-recording_asked words tuning files preset text reads named few (Some (request.Verify pairs workers strict)) has = absurd has
-recording_asked words tuning files preset text reads named few (Some (request.VerifyPart film file frames)) has = absurd has
-recording_asked words tuning files preset text reads named few (Some (request.Replay sources capacity file)) has = absurd has
+recording_asked words tuning pieces files preset text reads cut named few (Some (request.List file json)) has = absurd has
+recording_asked words tuning pieces files preset text reads cut named few (Some (request.Code file index)) has = absurd has
+recording_asked words tuning pieces files preset text reads cut named few (Some (request.Play file frames workers)) has = absurd has
+recording_asked words tuning pieces files preset text reads cut named few (Some (request.Listed file index frames)) has = absurd has
+recording_asked words tuning pieces files preset text reads cut named few (Some (request.PlayInto recordings into frames workers)) has = absurd has
+recording_asked words tuning pieces files preset text reads cut named few (Some (request.Salvage file index)) has = absurd has
+recording_asked words tuning pieces files preset text reads cut named few (Some (request.Index file sums json)) has = absurd has
+recording_asked words tuning pieces files preset text reads cut named few (Some (request.IndexBeside recordings sums)) has = absurd has
+recording_asked words tuning pieces files preset text reads cut named few (Some (request.Check file index workers strict json)) has = absurd has
+recording_asked words tuning pieces files preset text reads cut named few (Some (request.CheckPart file index frames workers json)) has = absurd has
+recording_asked words tuning pieces files preset text reads cut named few (Some (request.CheckEach recordings beside workers strict json)) has = absurd has
+recording_asked words tuning pieces files preset text reads cut named few (Some (request.Verify pairs workers strict)) has = absurd has
+recording_asked words tuning pieces files preset text reads cut named few (Some (request.VerifyPart film file frames)) has = absurd has
+recording_asked words tuning pieces files preset text reads cut named few (Some (request.Replay sources capacity file)) has = absurd has

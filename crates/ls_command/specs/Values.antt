@@ -1,7 +1,10 @@
--- The values of options as they are written: numbers, the frames of `--frames`, the coding parameters of `--preset`.
+-- The values of options as they are written: numbers, the frames of `--frames`, the pieces of `--pieces`, and the coding
+-- parameters of `--preset`.
 use Rattle.std.specs.Prelude.{◌≡◌, ◌⊎◌, ◌<◌, ◌^◌, ℕ, List, [], ◌∷◌, ◌++◌, Option, Some, None}
 use Rattle.std.specs.Str.Parse.{IsNumeral, digits_value}
 use Rattle.ls_frame.specs.declared.tuning.Tuning.{Tuning}
+use Rattle.ls_command.specs.declared.cut.Cut.{Cut}
+use Rattle.ls_command.specs.declared.cut.Cut.TheVariants as cut
 use Rattle.ls_command.specs.declared.frames.Frames.{Frames}
 
 -- the decimal digits of a number, perhaps with leading zeros
@@ -29,6 +32,17 @@ WriteRange (d ∷ a) (c ∷ b) frames = Writes (d ∷ a) frames.first × (n : �
 abbrev pub WritesFrames : List ℕ → Frames → Type 0
 WritesFrames text frames = (Writes text frames.first × (frames.last ≡ Some frames.first))
     ⊎ ((a : List ℕ) × (b : List ℕ) × (text ≡ a ++ (point ∷ point ∷ b)) × WriteRange a b frames)
+
+-- ---- pieces
+
+-- the letter `s`
+abbrev pub letter_s : ℕ
+letter_s = 115
+
+-- a number of frames, or of seconds with `s` after it
+abbrev pub WritesCut : List ℕ → Cut → Type 0
+WritesCut text (cut.Frames n) = Writes text n
+WritesCut text (cut.Seconds n) = (digits : List ℕ) × (text ≡ digits ++ (letter_s ∷ [])) × Writes digits n
 
 -- ---- coding parameters
 

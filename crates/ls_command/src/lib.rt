@@ -14,23 +14,29 @@
 //! ```
 //!
 //! The words are parsed by `clap`, which isn't seen outside: `commands` gives it the commands and options, and
-//! `texts` holds their help. `limits` has the limits on numbers; `frames` and `preset` read the values of `--frames`
-//! and `--preset` (`specs/Values.antt`). The contracts say which request the matched words make
-//! (`specs/View/Matched.antt`). The tests of the whole program show which words are accepted, and how others are answered.
+//! `texts` holds their help. `limits` has the limits on numbers; `frames`, `cut` and `preset` read the values of `--frames`,
+//! `--pieces` and `--preset` (`specs/Values.antt`); `faults` makes the usage faults that `clap` doesn't find. The contracts
+//! say which request the matched words make (`specs/View/Matched.antt`). The tests of the whole program show which words are
+//! accepted, and how others are answered.
 #![tactic(auto)]
 
 mod commands;
+pub mod cut;
+mod faults;
 pub mod frames;
 mod limits;
 mod preset;
 mod texts;
 
 ghost use Rattle.std.specs.Prelude.{◌≡◌, ◌^◌, ◌∷◌, [], true, None, Some, IfOk, IfSome, codes, map, string_bytes};
-ghost use Rattle.ls_command.specs.View.Matched.{Asks, AsksFrames, AsksToRecord, AsksWorkers, AreMatched, ArePairsOf, HasText, MakesRequest, ReadsNumber, WordsMakeRequest, files_in, texts_in_turn, texts_of};
+ghost use Rattle.ls_command.specs.View.Matched.{Asks, AsksFrames, AsksPieces, AsksToRecord, AsksWorkers, AreMatched, ArePairsOf, HasText, MakesRequest, ReadsNumber, WordsMakeRequest, files_in, texts_in_turn, texts_of};
 
 use clap::error::ErrorKind;
-use clap::{ArgMatches, Command, Error};
-use commands::{command, command_named};
+use clap::{ArgMatches, Error};
+use commands::command;
+pub use cut::Cut;
+use cut::read_cut;
+use faults::{misuse_of, usage_fault, with_tip};
 pub use frames::Frames;
 use frames::read_frames;
 pub use limits::MOST_FILMS;
@@ -38,10 +44,10 @@ use ls_frame::Tuning;
 use preset::tuning_of;
 use std::alloc::{AllocError, Global};
 use texts::{
-    BAD_PRESET, BEGINNING, BESIDE_WANTED, CHECKERS_WANTED, COMMAND_WANTED, FRAMES_OF_ONE,
-    FRAMES_OR_SALVAGE, FRAMES_OR_STRICT, FRAMES_WANTED, INDEX_OF_ONE, INDEX_OR_BESIDE,
-    INDEX_WANTED, INTO_OR_INDEX, INTO_OR_SALVAGE, INTO_WANTED, JSON_OR_BESIDE, PAIRS_WANTED,
-    PLAYERS_WANTED, SALVAGE_WANTED, TOO_MANY_FILMS, VERIFIERS_WANTED,
+    BAD_PIECES, BAD_PRESET, BEGINNING, BESIDE_WANTED, CHECKERS_WANTED, COMMAND_WANTED,
+    FRAMES_OF_ONE, FRAMES_OR_SALVAGE, FRAMES_OR_STRICT, FRAMES_WANTED, INDEX_OF_ONE,
+    INDEX_OR_BESIDE, INDEX_WANTED, INTO_OR_INDEX, INTO_OR_SALVAGE, INTO_WANTED, JSON_OR_BESIDE,
+    PAIRS_WANTED, PLAYERS_WANTED, SALVAGE_WANTED, TOO_MANY_FILMS, VERIFIERS_WANTED,
 };
 
 /// A request, one variant for each command; but `play` has four, `check` three, and `index` and `verify` two each.
@@ -178,6 +184,8 @@ pub struct RecordRequest<'a> {
     pub index: bool,
     /// Whether the times of its frames are written beside each recording.
     pub times: bool,
+    /// Where each recording is cut into pieces, if it is.
+    pub pieces: Option<Cut>,
     /// The seconds after which what is recorded is brought onto the disk again; 0 if that is to be at the end alone.
     pub sync: usize,
     /// Whether pipes are kept open when nothing writes to them.
@@ -629,6 +637,7 @@ fn record_request<'a>(alloc: Global, words: &ArgMatches<'a>) -> Result<Option<Re
     let Some(tuning) = tuning_of(words.get_str("preset")) else {
         return Err(Refusal::Limit(BAD_PRESET));
     };
+    let pieces = pieces_of(words)?;
     let files = match files_of(alloc, words) {
         Ok(files) => files,
         Err(refused) => return Err(Refusal::Clap(Error::from(refused))),
@@ -636,7 +645,20 @@ fn record_request<'a>(alloc: Global, words: &ArgMatches<'a>) -> Result<Option<Re
     if files.len() > MOST_FILMS {
         return Err(Refusal::Limit(TOO_MANY_FILMS));
     }
-    Ok(recording_of(words, tuning, files))
+    Ok(recording_of(words, tuning, pieces, files))
+}
+
+/// Where each recording is cut into pieces, if `--pieces` is given.
+fn pieces_of(words: &ArgMatches<'_>) -> Result<Option<Cut>, Refusal>
+    ensures { IfOk result (AsksPieces words.now) }
+{
+    match words.get_str("pieces") {
+        Some(text) => match read_cut(text) {
+            Some(cut) => Ok(Some(cut)),
+            None => Err(Refusal::Limit(BAD_PIECES)),
+        },
+        None => Ok(None),
+    }
 }
 
 /// The files that are named.
@@ -649,13 +671,14 @@ fn files_of<'a>(alloc: Global, words: &ArgMatches<'a>) -> Result<Vec<&'a str>, A
     }
 }
 
-/// The request of `record`, with this tuning and these films.
+/// The request of `record`, with this tuning, in these pieces and of these films.
 fn recording_of<'a>(
     words: &ArgMatches<'a>,
     tuning: Tuning,
+    pieces: Option<Cut>,
     files: Vec<&'a str>,
 ) -> Option<Request<'a>>
-    ensures { IfSome result (AsksToRecord words.now tuning files.entry.items) }
+    ensures { IfSome result (AsksToRecord words.now tuning pieces files.entry.items) }
 {
     Some(Request::Record(RecordRequest {
         workers: size_of(words, "workers")?,
@@ -668,6 +691,7 @@ fn recording_of<'a>(
         report: words.get_str("report"),
         index: words.get_flag("index"),
         times: words.get_flag("times"),
+        pieces,
         sync: size_of(words, "sync")?,
         keep_open: words.get_flag("keep-open"),
         count: count_of(words),
@@ -699,94 +723,4 @@ fn replay_request<'a>(words: &ArgMatches<'a>) -> Option<Request<'a>>
         capacity: words.get_one("capacity")?,
         file: words.get_str("FILE")?,
     })
-}
-
-/// A usage fault that `clap` doesn't find by itself. An `AllocError`, also that of the command, becomes an error of
-/// kind `OutOfMemory`.
-fn usage_fault(used: Result<Command<'_>, AllocError>, message: &str) -> Error {
-    fault_of_kind(ErrorKind::InvalidValue, used, message)
-}
-
-/// A usage fault of the command of this name.
-fn misuse_of(alloc: Global, name: &str, message: &str) -> Error {
-    usage_fault(command_named(alloc, name), message)
-}
-
-/// The same, of any kind.
-fn fault_of_kind(kind: ErrorKind, used: Result<Command<'_>, AllocError>, message: &str) -> Error {
-    let made = match used {
-        Ok(mut used) => used.error(kind, message),
-        Err(refused) => Err(refused),
-    };
-    match made {
-        Ok(error) => error,
-        Err(refused) => Error::from(refused),
-    }
-}
-
-/// Adds a tip to the error for an unknown command: the command that may be meant, if there is one. Other errors stay
-/// as they are.
-fn with_tip(alloc: Global, words: &[String], error: Error) -> Error {
-    if error.kind() != ErrorKind::InvalidSubcommand {
-        return error;
-    }
-    let is_help = words.first().is_some_and(|word| word.as_str() == "help");
-    let name = usize::from(is_help);
-    match words.get(name) {
-        Some(word) => match meant_by(word.as_str()) {
-            Some(meant) => unknown_command(alloc, word.as_str(), meant),
-            None if is_help => tip_of_clap(alloc, words, error),
-            None => error,
-        },
-        None => error,
-    }
-}
-
-/// The command that is meant by another word for what it does.
-fn meant_by(word: &str) -> Option<&'static str> {
-    match word {
-        "decode" => Some("play"),
-        "encode" => Some("record"),
-        _ => None,
-    }
-}
-
-/// A usage fault in the words of `clap`: an unknown command, with `meant` as its tip.
-fn unknown_command(alloc: Global, word: &str, meant: &str) -> Error {
-    let message = format!(in alloc;
-        "unrecognized subcommand '{word}'\n\n  tip: a similar subcommand exists: '{meant}'"
-    );
-    match message {
-        Ok(message) => {
-            fault_of_kind(
-                ErrorKind::InvalidSubcommand,
-                command(alloc),
-                message.as_str(),
-            )
-        }
-        Err(refused) => Error::from(refused),
-    }
-}
-
-/// Has `clap` look at the word after `help` by itself, since it gives a tip for an unknown command only then. Without
-/// a tip, `error`.
-fn tip_of_clap(alloc: Global, words: &[String], error: Error) -> Error {
-    match words.get(1..2) {
-        Some(word) => tip_or(match_words(alloc, word), error),
-        None => error,
-    }
-}
-
-/// The error for an unknown command, if `matched` is one; else `error`.
-fn tip_or(matched: Result<ArgMatches<'_>, Error>, error: Error) -> Error {
-    match matched {
-        Ok(_matches) => error,
-        Err(tip) => {
-            if tip.kind() == ErrorKind::InvalidSubcommand {
-                tip
-            } else {
-                error
-            }
-        }
-    }
 }

@@ -143,6 +143,11 @@ Also write beside each FILE.jls, as FILE.jls.times, a line for each frame once i
 first byte and its last came, and when it was written, in nanoseconds since 1970-01-01T00:00:00Z. If such a file
 can't be created, nothing is recorded; if one fails later, its recording goes on";
 
+pub const PIECES_HELP: &str = "\
+Begin a new file each N frames, or each N seconds with s after the number: FILE.jls, then FILE.00001.jls,
+FILE.00002.jls and so on, each with an index and times of its own if these are wanted. A finished one may be
+moved or removed while the recording goes on. One after the other they are the recording";
+
 pub const INDEX_BESIDE_HELP: &str = "\
 Write the index of each FILE to FILE.index instead of standard output. It has the name FILE.index.part until it is whole
 and on the disk. An existing FILE.index isn't replaced, which is a fault of its FILE; the others go on";
@@ -246,9 +251,9 @@ is on the disk, in the order of the films:
   FILE: N frames
 
 All FILEs are opened before any FILE.jls is created. No earlier recording is lost: an existing FILE.jls is
-first renamed to FILE.jls.1, or to the next free number, together with its index and its times. If another
-program is recording it, nothing is changed. A named pipe is opened by its own lane, so a camera that hasn't
-started doesn't delay the others.
+first renamed to FILE.jls.1, or to the next free number, together with its index, its times and its pieces.
+If another program is recording it, nothing is changed. A named pipe is opened by its own lane, so a camera
+that hasn't started doesn't delay the others.
 
   $ jlsrec record left.pgm right.pgm
   left.pgm: 250 frames
@@ -258,6 +263,8 @@ started doesn't delay the others.
 pub const TOO_MANY_FILMS: &str = "jlsrec: at most 16 files\n";
 
 pub const BAD_PRESET: &str = "jlsrec: bad preset\n";
+
+pub const BAD_PIECES: &str = "jlsrec: bad pieces\n";
 
 pub const WORKERS_HELP: &str = "The number of workers that code frames, 1 to 16";
 
@@ -273,8 +280,8 @@ The folder for the recordings, which are named after the last parts of their FIL
 [default: beside each FILE]";
 
 pub const REPLACE_HELP: &str = "\
-Remove the FILE.jls that was renamed, its index and its times, once the new recording has its first frame on the
-disk";
+Remove the FILE.jls that was renamed, its pieces, indexes and times, once the new recording has its first frame on
+the disk";
 
 pub const PROGRESS_HELP: &str = "\
 Report on standard error how far each film is, twice a second, and immediately when one stops;

@@ -83,6 +83,14 @@ impl<F: OpenFile + Drop> Held<F> {
         !matches!(self.standing, Standing::Astray)
     }
 
+    /// Whether an earlier file was renamed, still has its new name, and may be removed.
+    pub fn is_removable<O: Makes<File = F>>(&self, opener: &O) -> bool {
+        match &self.renamed {
+            Some(name) => self.is_replaceable() && self.is_still(opener, name),
+            None => false,
+        }
+    }
+
     /// The earlier file's new name, if it was renamed.
     pub fn renamed(&self) -> Option<&str> {
         match &self.renamed {
@@ -137,12 +145,18 @@ impl<F: OpenFile + Drop> Held<F> {
                 Ok(Target::opened(opener, path, file))
             }
             _ => {
-                self.folder = open_folder(&opener, folder_of(&self.path))?;
-                let file = make_new(&opener, &self.path)?;
-                self.made = Some(file.try_clone()?);
+                let file = self.make_file(&opener)?;
                 Ok(Target::opened(opener, path, file))
             }
         }
+    }
+
+    /// Makes a new file and locks it. Fails with `WouldBlock` if another program has made it meanwhile.
+    pub fn make_file<O: Makes<File = F>>(&mut self, opener: &O) -> io::Result<F> {
+        self.folder = open_folder(opener, folder_of(&self.path))?;
+        let file = make_new(opener, &self.path)?;
+        self.made = Some(file.try_clone()?);
+        Ok(file)
     }
 
     /// Whether there is no new file, since what is at the path is written into: a pipe, a device or an open file.
@@ -323,7 +337,7 @@ fn stands_at<O: Makes>(opener: &O, path: &str, file: &O::File) -> bool {
 
 /// Renames a file, unless something has the new name: then `false`. The name is reserved first by a new, empty file,
 /// so an existing file is never replaced.
-fn rename_new<O: Makes>(opener: &O, from: &str, to: &str) -> io::Result<bool> {
+pub fn rename_new<O: Makes>(opener: &O, from: &str, to: &str) -> io::Result<bool> {
     match opener.create_new(to) {
         Ok(_taken) => {}
         Err(fault) if fault.kind() == io::ErrorKind::AlreadyExists => return Ok(false),

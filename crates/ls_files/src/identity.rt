@@ -1,4 +1,5 @@
 //! Identifies files, whatever they are called.
+use crate::row::is_piece_name;
 use std::fs;
 use std::fs::{Files, Metadata};
 use std::os::unix::fs::MetadataExt;
@@ -37,6 +38,11 @@ impl<'a> Spot<'a> {
             }),
             Err(_) => None,
         }
+    }
+
+    /// Whether a file here could be a piece of the recording there, or its index or times.
+    pub fn is_piece_of(&self, recording: Spot<'_>) -> bool {
+        self.folder == recording.folder && is_piece_name(self.name, recording.name)
     }
 }
 

@@ -4,6 +4,7 @@ ghost use Rattle.std.specs.Prelude.{◌≡◌, IfOk};
 use crate::held::Held;
 use crate::opener::{Makes, Opens};
 use crate::place::Place;
+use crate::row::{Row, piece_path};
 use crate::target::Target;
 use std::alloc::{AllocError, Global};
 use std::io;
@@ -37,6 +38,8 @@ pub struct Keeper<O: Makes> {
     recording: Held<O::File>,
     /// The files to make beside the recording, or existing ones.
     beside: Vec<(Beside, Held<O::File>)>,
+    /// The pieces of an earlier recording, if there are any.
+    row: Option<Row>,
     /// Whether earlier files are removed once the recording has a codestream.
     replaces: bool,
 }
@@ -47,6 +50,14 @@ pub struct Targets<'a, O: Opens> {
     pub recording: Target<'a, O>,
     pub index: Option<Target<'a, O>>,
     pub times: Option<Target<'a, O>>,
+}
+
+/// The files of a piece of a recording, to be written to.
+#[derive(Drop)]
+pub struct Piece<F> {
+    pub recording: F,
+    pub index: Option<F>,
+    pub times: Option<F>,
 }
 
 /// The file that can't be made, and why. `WouldBlock` means that another program is making it.
@@ -93,6 +104,7 @@ impl<O: Makes + Copy + Drop> Keeper<O> {
             opener,
             recording,
             beside: Vec::new(alloc),
+            row: None,
             replaces: replace,
         };
         keeper.claim_beside(alloc, Beside::Index, index)?;
@@ -119,6 +131,79 @@ impl<O: Makes + Copy + Drop> Keeper<O> {
             Ok(()) => Ok(()),
             Err(_) => Err(Unmade::beside(beside, io::Error::from(AllocError))),
         }
+    }
+
+    /// Has the pieces of an earlier recording be renamed with it, of which there are `count`.
+    pub fn claim_row(&mut self, alloc: Global, path: &str, count: u32) -> Result<(), AllocError> {
+        self.row = Some(Row::new(alloc, path, count)?);
+        Ok(())
+    }
+
+    /// Makes the files of the piece of this number, from 1, of the recording at a path, as `make` makes those of a
+    /// recording: with an index and times, if they are wanted.
+    pub fn make_piece(
+        alloc: Global,
+        opener: O,
+        recording: &str,
+        number: u32,
+        is_indexed: bool,
+        is_timed: bool,
+    ) -> Result<(Keeper<O>, Piece<O::File>), Unmade> {
+        let path = own_path(piece_path(alloc, recording, number))?;
+        let index = own_path(format!(in alloc; "{path}{INDEX}"))?;
+        let times = own_path(format!(in alloc; "{path}{TIMES}"))?;
+        let place = Place::of_piece(&opener, &path);
+        let index = Place::of_piece(&opener, &index);
+        let times = Place::of_piece(&opener, &times);
+        let mut keeper = Keeper::claim(alloc, opener, &place, Some(&index), Some(&times), false)?;
+        match keeper.make_files(alloc, is_indexed, is_timed) {
+            Ok(piece) => Ok((keeper, piece)),
+            Err(unmade) => {
+                keeper.give_back();
+                Err(unmade)
+            }
+        }
+    }
+
+    /// Renames existing files, and makes those of a piece.
+    fn make_files(
+        &mut self,
+        alloc: Global,
+        is_indexed: bool,
+        is_timed: bool,
+    ) -> Result<Piece<O::File>, Unmade> {
+        self.clear_places(alloc)?;
+        let recording = match self.recording.make_file(&self.opener) {
+            Ok(file) => file,
+            Err(fault) => return Err(Unmade::recording(fault)),
+        };
+        let index = self.make_file_beside(Beside::Index, is_indexed)?;
+        let times = self.make_file_beside(Beside::Times, is_timed)?;
+        Ok(Piece {
+            recording,
+            index,
+            times,
+        })
+    }
+
+    /// Makes a file beside a piece, if it is wanted.
+    fn make_file_beside(
+        &mut self,
+        beside: Beside,
+        is_wanted: bool,
+    ) -> Result<Option<O::File>, Unmade> {
+        if !is_wanted {
+            return Ok(None);
+        }
+        for (own, held) in self.beside.iter_mut() {
+            if *own == beside {
+                return match held.make_file(&self.opener) {
+                    Ok(file) => Ok(Some(file)),
+                    Err(fault) => Err(Unmade::beside(beside, fault)),
+                };
+            }
+        }
+        Ok(None)
     }
 
     /// Makes the file of the recording, and that of its index and that of its times if paths are given for them.
@@ -200,7 +285,34 @@ impl<O: Makes + Copy + Drop> Keeper<O> {
     /// Whether no existing file has to be renamed.
     fn are_clear(&self) -> bool {
         !self.recording.is_in_the_way()
+            && !self.is_row_in_the_way()
             && !self.beside.iter().any(|(_own, held)| held.is_in_the_way())
+    }
+
+    fn is_row_in_the_way(&self) -> bool {
+        match &self.row {
+            Some(row) => row.is_in_the_way(),
+            None => false,
+        }
+    }
+
+    /// Renames the pieces of an earlier recording by this number, if there are any that aren't renamed; whether that
+    /// worked.
+    fn clear_row(&mut self, number: u32) -> Result<bool, Unmade> {
+        match &mut self.row {
+            Some(row) if row.is_in_the_way() => match row.rename(&self.opener, number) {
+                Ok(is_renamed) => Ok(is_renamed),
+                Err(fault) => Err(Unmade::recording(fault)),
+            },
+            _ => Ok(true),
+        }
+    }
+
+    /// Gives the pieces of an earlier recording their names back.
+    fn give_row_back(&mut self) {
+        if let Some(row) = &mut self.row {
+            row.give_back(&self.opener);
+        }
     }
 
     /// Renames the existing files by this number, if all names by it are free; whether that worked.
@@ -210,14 +322,20 @@ impl<O: Makes + Copy + Drop> Keeper<O> {
             Ok(None) => return Ok(false),
             Err(fault) => return Err(Unmade::recording(fault)),
         };
-        if !self.are_free_beside(alloc, number)? {
+        if !self.are_free_beside(alloc, number)? || !self.clear_row(number)? {
             return Ok(false);
         }
         if self.recording.is_in_the_way() {
             match self.recording.rename(&self.opener, name) {
                 Ok(true) => {}
-                Ok(false) => return Ok(false),
-                Err(fault) => return Err(Unmade::recording(fault)),
+                Ok(false) => {
+                    self.give_row_back();
+                    return Ok(false);
+                }
+                Err(fault) => {
+                    self.give_row_back();
+                    return Err(Unmade::recording(fault));
+                }
             }
         }
         self.clear_beside(alloc, number)
@@ -308,10 +426,15 @@ impl<O: Makes + Copy + Drop> Keeper<O> {
     }
 
     /// Removes earlier files, if they are to be replaced. To be called once the recording has a codestream and is on
-    /// the disk.
+    /// the disk. Pieces are removed only with the earlier recording that they belong to: without one they may be another's.
     pub fn replace(&mut self) {
         if self.replaces {
             self.replaces = false;
+            if self.recording.is_removable(&self.opener) {
+                if let Some(row) = &mut self.row {
+                    row.remove(&self.opener);
+                }
+            }
             self.recording.remove_earlier(&self.opener);
             for (_own, held) in self.beside.iter_mut() {
                 held.remove_earlier(&self.opener);
@@ -327,9 +450,11 @@ impl<O: Makes + Copy + Drop> Keeper<O> {
         }
         if self.recording.stands(&self.opener) {
             // While the recording's new file is there and locked, no other program takes its place.
+            self.give_row_back();
             self.give_back_beside();
             let _is_back = self.recording.give_back(&self.opener);
         } else if self.recording.is_written_into() || self.recording.give_back(&self.opener) {
+            self.give_row_back();
             self.give_back_beside();
         }
     }
@@ -338,5 +463,13 @@ impl<O: Makes + Copy + Drop> Keeper<O> {
         for (_own, held) in self.beside.iter_mut() {
             let _is_back = held.give_back(&self.opener);
         }
+    }
+}
+
+/// A path, or that there is no memory for it.
+fn own_path(path: Result<String, AllocError>) -> Result<String, Unmade> {
+    match path {
+        Ok(path) => Ok(path),
+        Err(refused) => Err(Unmade::recording(io::Error::from(refused))),
     }
 }

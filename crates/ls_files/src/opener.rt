@@ -1,5 +1,6 @@
 //! Opens files in any thread.
-ghost use Rattle.std.specs.Prelude.{ℕ, List, Option, IfOk};
+ghost use Rattle.std.specs.Prelude.{◌≡◌, ℕ, List, [], Option, None, IfOk};
+ghost use Rattle.std.specs.Io.KnownBytes.{Keeps, prepend_known};
 ghost use Rattle.ls_files.specs.View.Opened.{HoldsFrom};
 
 use crate::stop::Stop;
@@ -52,6 +53,26 @@ pub trait Opens {
 
 /// Makes, locks, renames and removes files, in any thread.
 pub trait Makes: Opens {
+    /// What is kept of files that were closed once they were finished, so that their bytes stay known if they were.
+    type Finished: Drop;
+
+    /// The bytes of these files, one file after the other.
+    ghost kept: { Self.Finished → List ℕ };
+
+    /// Before the first file is finished.
+    fn none_finished(&self, alloc: Global) -> Self::Finished
+        ensures { kept result ≡ [] };
+
+    /// Closes a file that is finished, and goes on with the next, which is new. The bytes known of the finished files and
+    /// of the file are the same before and afterwards. If memory runs out, it goes on with the file.
+    fn succeed(
+        &self,
+        finished: &mut Self::Finished,
+        file: &mut Self::File,
+        next: Self::File,
+    ) -> Result<(), AllocError>
+        ensures { Keeps (prepend_known (kept finished.old) (Self.File.contents file.old)) (prepend_known (kept finished.new) (Self.File.contents file.new)) };
+
     /// Makes a file to write to. Fails with `AlreadyExists` if anything has that name.
     fn create_new(&self, path: &str) -> io::Result<Self::File>;
 
@@ -73,10 +94,14 @@ pub trait Makes: Opens {
     fn remove(&self, path: &str) -> io::Result<()>;
 }
 
-/// A file that can be locked until it is closed.
-pub trait Locks {
+/// A file on a disk, which can be locked until it is closed.
+pub trait Locks: Write {
     /// Takes the lock; `false` if another program has it.
     fn take_lock(&self) -> io::Result<bool>;
+
+    /// Nothing is known of its bytes. Does nothing.
+    fn tells_nothing(&self)
+        ensures { Self.contents self.now ≡ None };
 }
 
 impl Locks for File {
@@ -87,6 +112,8 @@ impl Locks for File {
             Err(TryLockError::Error(fault)) => Err(fault),
         }
     }
+
+    fn tells_nothing(&self) {}
 }
 
 /// Opens the files of a runtime.
@@ -183,6 +210,23 @@ impl<'a, R: Files + Eprint + Clock> Makes for Opener<'a, R>
 where
     R::File: Locks,
 {
+    type Finished = ();
+
+    ghost kept = { λ _. [] };
+
+    fn none_finished(&self, _alloc: Global) {}
+
+    fn succeed(
+        &self,
+        _finished: &mut (),
+        file: &mut R::File,
+        next: R::File,
+    ) -> Result<(), AllocError> {
+        file.tells_nothing();
+        *file = next;
+        Ok(())
+    }
+
     fn create_new(&self, path: &str) -> io::Result<R::File> {
         OpenOptions::new()
             .write(true)

@@ -1,5 +1,6 @@
 //! The place of a file that is to be made, and what is there already.
 use crate::identity::{Identity, Spot, folder_of};
+use crate::opener::Makes;
 use std::fs;
 use std::fs::Files;
 use std::os::unix::fs::{FileTypeExt, MetadataExt};
@@ -41,6 +42,21 @@ impl<'a> Place<'a> {
         }
     }
 
+    /// Looks at what is at the path of a piece, in any thread. Whatever is there is renamed: also a link, a pipe or a
+    /// device.
+    pub fn of_piece<O: Makes>(opener: &O, path: &'a str) -> Place<'a> {
+        let standing = match opener.look(path) {
+            Ok(own) if own.is_file() => Standing::File(Identity::of(&own)),
+            Ok(_) => Standing::Astray,
+            Err(_) => Standing::Nothing,
+        };
+        Place {
+            path,
+            spot: None,
+            standing,
+        }
+    }
+
     /// The path.
     pub fn path(&self) -> &'a str {
         self.path
@@ -65,6 +81,14 @@ impl<'a> Place<'a> {
     pub fn is_one_with(&self, other: &Place<'_>) -> bool {
         (self.spot.is_some() && self.spot == other.spot)
             || (self.identity().is_some() && self.identity() == other.identity())
+    }
+
+    /// Whether a file here could be a piece of the recording at another place, or its index or times.
+    pub fn is_piece_of(&self, recording: &Place<'_>) -> bool {
+        match (self.spot, recording.spot) {
+            (Some(own), Some(recording)) => own.is_piece_of(recording),
+            _ => false,
+        }
     }
 
     /// Whether output here would go into this very file, or replace it for good: always for a pipe, a device or an

@@ -1,8 +1,11 @@
 //! A file that is written.
 ghost use Rattle.std.specs.Prelude.{◌≡◌, Some, None};
+ghost use Rattle.std.specs.Io.KnownBytes.{Keeps};
+ghost use Rattle.ls_files.specs.View.Files.{joined_in};
 
-use crate::opener::Opens;
+use crate::opener::{Makes, Opens};
 use crate::patient::write_again;
+use std::alloc::AllocError;
 use std::io;
 use std::io::Write;
 
@@ -50,6 +53,23 @@ impl<'a, O: Opens> Target<'a, O> {
     /// The number of bytes that were written to it.
     pub fn written(&self) -> u64 {
         self.written
+    }
+
+    /// Closes the file, which is finished, and goes on with the next, which is new; a pipe that isn't open isn't opened. The
+    /// number of bytes goes on. The bytes known of the finished files and of the file are the same before and afterwards.
+    /// If memory runs out, it goes on with the file.
+    pub fn succeed(&mut self, finished: &mut O::Finished, next: O::File) -> Result<(), AllocError>
+    where
+        O: Makes,
+        ensures { Keeps (joined_in O.kept O.File.contents finished.old self.old) (joined_in O.kept O.File.contents finished.new self.new) }
+    {
+        match &mut self.file {
+            Some(file) => self.opener.succeed(finished, file, next),
+            None => {
+                self.file = Some(next);
+                Ok(())
+            }
+        }
     }
 
     /// Opens a pipe that was never opened, so that its reader sees the end; waits until something reads from it.

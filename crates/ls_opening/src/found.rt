@@ -2,7 +2,8 @@
 ghost use Rattle.std.specs.Prelude.{◌≡◌};
 
 use crate::names::Names;
-use ls_files::{Identity, Place, Spot};
+use ls_files::{INDEX, Identity, Place, Spot, TIMES, piece_path};
+use std::alloc::AllocError;
 use std::rt::Files;
 
 /// A film that was found, before anything is locked.
@@ -40,13 +41,14 @@ impl<'a> Found<'a> {
 }
 
 /// The first film whose recording, index or times would be the same file as another's or as one another, or that is
-/// another's recording, an index or times, or into which one of these would be written.
+/// another's recording, an index or times, or into which one of these would be written, or that or whose recording could be
+/// a piece of another's.
 pub fn written_twice<'a>(films: &[Found<'a>], replace: bool) -> Option<&'a str> {
     for (place, film) in films.iter().enumerate() {
         for (other, one) in films.iter().enumerate() {
             if is_overwritten(film, one, replace)
                 || meets_beside(film, one, replace)
-                || (place != other && are_one(film, one))
+                || (place != other && (are_one(film, one) || is_piece(film, one)))
                 || (place == other && are_one_beside(film))
             {
                 return Some(film.names.file);
@@ -54,6 +56,32 @@ pub fn written_twice<'a>(films: &[Found<'a>], replace: bool) -> Option<&'a str> 
         }
     }
     None
+}
+
+/// The recording of the first film that is to be cut into pieces, and can't be: it is written into a pipe, a device or an
+/// open file.
+pub fn uncut<'a>(films: &[Found<'a>]) -> Option<&'a str> {
+    for film in films {
+        if film.names.is_cut && film.place.is_written_into() {
+            return Some(film.names.recording.as_str());
+        }
+    }
+    None
+}
+
+/// Whether this film or its recording could be a piece of another's recording.
+fn is_piece(film: &Found<'_>, other: &Found<'_>) -> bool {
+    other.names.is_cut
+        && (film.place.is_piece_of(&other.place)
+            || match (film.spot, other.place.spot()) {
+                (Some(spot), Some(recording)) => spot.is_piece_of(recording),
+                _ => false,
+            })
+}
+
+/// Whether a file at this place could be a piece of a film's recording.
+pub fn could_be_piece(film: &Found<'_>, place: &Place<'_>) -> bool {
+    film.names.is_cut && place.is_piece_of(&film.place)
 }
 
 /// Whether the recording of `other` would be written into this film.
@@ -149,4 +177,58 @@ fn is_given(place: &Place<'_>, films: &[Found<'_>], report: Option<&Place<'_>>) 
 fn is_at(film: &Found<'_>, place: &Place<'_>) -> bool {
     (film.spot.is_some() && film.spot == place.spot())
         || (film.identity.is_some() && film.identity == place.identity())
+}
+
+/// The number of pieces of an earlier recording that are renamed with it: those with numbers from 1 on, as far as they are
+/// there and neither they nor files beside them are one of the films, another film's recording or the report; none if the
+/// recording is written into a pipe, a device or an open file.
+pub fn pieces_to_claim<R: Files + AllocGlobal>(
+    rt: &R,
+    film: &Found<'_>,
+    films: &[Found<'_>],
+    report: Option<&Place<'_>>,
+) -> Result<u32, AllocError> {
+    if film.place.is_written_into() {
+        return Ok(0);
+    }
+    for number in 0..u32::MAX - 1 {
+        if !has_piece(rt, film, number + 1, films, report)? {
+            return Ok(number);
+        }
+    }
+    Ok(0)
+}
+
+/// Whether the piece of this number of an earlier recording is there, and neither it nor a file beside it is one of the
+/// films, another film's recording or the report.
+fn has_piece<R: Files + AllocGlobal>(
+    rt: &R,
+    film: &Found<'_>,
+    number: u32,
+    films: &[Found<'_>],
+    report: Option<&Place<'_>>,
+) -> Result<bool, AllocError> {
+    let alloc = rt.alloc();
+    let path = piece_path(alloc, film.names.recording.as_str(), number)?;
+    let place = Place::of(rt, &path);
+    if !place.standing().is_kept() || is_spoken_for(&place, films, report) {
+        return Ok(false);
+    }
+    for ending in [INDEX, TIMES] {
+        let path = format!(in alloc; "{path}{ending}")?;
+        if is_spoken_for(&Place::of(rt, &path), films, report) {
+            return Ok(false);
+        }
+    }
+    Ok(true)
+}
+
+/// Whether the file at a place is one of the films or the report, or a film's recording, or beside one.
+fn is_spoken_for(place: &Place<'_>, films: &[Found<'_>], report: Option<&Place<'_>>) -> bool {
+    is_given(place, films, report)
+        || films.iter().any(|film| {
+            film.place.is_one_with(place)
+                || film.index.is_one_with(place)
+                || film.times.is_one_with(place)
+        })
 }

@@ -26,7 +26,7 @@
 //!         Ok(names) => names,
 //!         Err(refusal) => return Err(refusal.say(console)),
 //!     };
-//!     match open_films(rt, Opener::new(rt), asked, &names, &[], console) {
+//!     match open_films(rt, Opener::new(rt), asked, &names, &[], &[], console) {
 //!         Ok(opened) => Ok(opened.films.len()),
 //!         Err(refusal) => Err(refusal.say(console)),
 //!     }
@@ -35,20 +35,27 @@
 //!
 //! In reading order: `names` (the names of films and of the files made for them), `found` (where a film and the places
 //! of its files are, and which are duplicates), `limited` (has a film be read no further than its first
-//! frames, and notes when their bytes came), `opening` (opens the films and makes the files), `film` (a film's
+//! frames, and notes when their bytes came and when a piece is due), `chain` (hands on pieces that were begun), `pieces`
+//! (writes a recording, or its pieces), `opening` (opens the films and makes the files), `film` (a film's
 //! files, from their opening until its recording has ended), `refusal` (why no film is recorded). No contract says
 //! what is said; the tests of the whole program show it.
 #![tactic(auto)]
 
+mod chain;
 mod film;
 mod found;
 mod limited;
 mod names;
 mod opening;
+mod pieces;
 mod refusal;
 
+pub use chain::Chain;
 pub use film::{Film, Synced, failed_of};
 pub use limited::{Course, Limited};
 pub use names::{Names, names_once};
 pub use opening::{Devices, Opened, Writer, open_films};
+pub use pieces::{
+    BesideParts, BrokenIndex, Cutting, IndexFollower, Parts, PieceWriter, Pieces, Succession,
+};
 pub use refusal::Refusal;

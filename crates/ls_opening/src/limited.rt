@@ -1,15 +1,18 @@
-//! Has a film be read no further than its first frames, and notes when the bytes of each came.
+//! Has a film be read no further than its first frames, and notes when the bytes of each came and when the next piece of its
+//! recording is due.
 ghost use Rattle.std.specs.Prelude.{◌≡◌};
 ghost use Rattle.ls_frame.specs.View.Devices.{risen};
 
+use ls_command::Cut;
 use ls_frame::{Failed, Feed, FeedFault};
 use std::alloc::{AllocError, Global};
 use std::io;
 use std::io::Read;
 use std::sync::atomic::{AtomicBool, AtomicU64, Ordering};
 
-/// How far a film is read, and when its bytes came, as its reader and the gate of its recording tell each other. Both do
-/// so in the thread that reads the film.
+/// How far a film is read, and when its bytes came, as its reader and the gate of its recording tell each other in the
+/// thread that reads the film; and when the next piece of its recording is due, as the gate tells its writer in the thread
+/// that writes.
 #[derive(Drop)]
 pub struct Course {
     /// The number of frames after which the film is read no further, if there is one, and whether so many were read.
@@ -23,19 +26,32 @@ pub struct Course {
     /// last.
     first: AtomicU64,
     came: AtomicU64,
+    /// Where its recording is cut into pieces, if it is.
+    cut: Option<Cut>,
+    /// The number of frames in the piece that is written, and the age of the recording when the first of these was written,
+    /// in nanoseconds.
+    frames: AtomicU64,
+    began: AtomicU64,
+    /// Whether the next piece is due; and whether one was begun since that was last asked.
+    is_due: AtomicBool,
+    is_new: AtomicBool,
 }
 
+/// The nanoseconds in a second.
+const SECOND: u64 = 1_000_000_000;
+
 impl Course {
-    /// The courses of `films` films: `count` frames are read of each, if there is a count, and times are noted if they
-    /// are wanted; none with neither.
+    /// The courses of `films` films: `count` frames are read of each, if there is a count, times are noted if they are
+    /// wanted, and the recordings are cut into pieces, if they are; none with nothing of this.
     pub fn of_each(
         alloc: Global,
         films: usize,
         count: Option<u64>,
         is_timed: bool,
+        cut: Option<Cut>,
     ) -> Result<Vec<Course>, AllocError> {
         let mut courses = Vec::new(alloc);
-        if count.is_some() || is_timed {
+        if count.is_some() || is_timed || cut.is_some() {
             for _film in 0..films {
                 courses.push(Course {
                     count,
@@ -44,6 +60,11 @@ impl Course {
                     is_before: AtomicBool::new(false),
                     first: AtomicU64::new(0),
                     came: AtomicU64::new(0),
+                    cut,
+                    frames: AtomicU64::new(0),
+                    began: AtomicU64::new(0),
+                    is_due: AtomicBool::new(false),
+                    is_new: AtomicBool::new(false),
                 })?;
             }
         }
@@ -80,6 +101,45 @@ impl Course {
         } else {
             None
         }
+    }
+
+    /// Notes that a frame was written whole, at this age of the recording in nanoseconds.
+    pub fn wrote(&self, age: u64) {
+        let Some(cut) = self.cut else {
+            return;
+        };
+        let frames = self.frames.load(Ordering::SeqCst).saturating_add(1);
+        self.frames.store(frames, Ordering::SeqCst);
+        if frames == 1 {
+            self.began.store(age, Ordering::SeqCst);
+        }
+        let is_due = match cut {
+            Cut::Frames(most) => frames >= u64::from(most),
+            Cut::Seconds(most) => {
+                let lasted = age.saturating_sub(self.began.load(Ordering::SeqCst));
+                lasted >= u64::from(most).saturating_mul(SECOND)
+            }
+        };
+        if is_due {
+            self.is_due.store(true, Ordering::SeqCst);
+        }
+    }
+
+    /// Whether the next piece is due.
+    pub fn is_due(&self) -> bool {
+        self.is_due.load(Ordering::SeqCst)
+    }
+
+    /// Notes that the next piece is begun.
+    pub fn begin_piece(&self) {
+        self.is_due.store(false, Ordering::SeqCst);
+        self.frames.store(0, Ordering::SeqCst);
+        self.is_new.store(true, Ordering::SeqCst);
+    }
+
+    /// Whether a piece was begun since this was last asked.
+    pub fn is_new_piece(&self) -> bool {
+        self.is_new.swap(false, Ordering::SeqCst)
     }
 
     fn is_reached(&self) -> bool {

@@ -23,6 +23,8 @@ pub struct Names<'a> {
     pub times: String,
     /// Whether that is made.
     pub is_timed: bool,
+    /// Whether the recording is cut into pieces.
+    pub is_cut: bool,
     pub notice: String,
 }
 
@@ -76,6 +78,7 @@ fn film_names<'a>(
         is_indexed: asked.index,
         times,
         is_timed: asked.times,
+        is_cut: asked.pieces.is_some(),
         notice,
     })
 }

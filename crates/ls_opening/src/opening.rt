@@ -1,15 +1,21 @@
 //! Opens the films of `record`, and makes the files for their recordings, for the indexes of those and for a report,
 //! of which none may be a duplicate.
-ghost use Rattle.std.specs.Prelude.{◌≡◌, IfOk, string_bytes};
+ghost use Rattle.std.specs.Prelude.{◌≡◌, [], IfOk, string_bytes};
 ghost use Rattle.std.specs.List.{AllZip};
+ghost use Rattle.ls_frame.specs.View.Devices.{wrapped};
 ghost use Rattle.ls_files.specs.View.Files.{ReadsFileAt, left_in_source};
 ghost use Rattle.ls_console.specs.View.Readers.{unread};
-ghost use Rattle.ls_opening.specs.View.Devices.{AreDevicesOf, IsWriterFor, target_of};
+ghost use Rattle.ls_opening.specs.View.Devices.{AreDevicesOf, IsWriterFor, kept_of, target_of};
 
+use crate::chain::Chain;
 use crate::film::Film;
-use crate::found::{Found, has_beside_at, index_to_claim, is_met, times_to_claim, written_twice};
+use crate::found::{
+    Found, could_be_piece, has_beside_at, index_to_claim, is_met, pieces_to_claim, times_to_claim,
+    uncut, written_twice,
+};
 use crate::limited::{Course, Limited};
 use crate::names::Names;
+use crate::pieces::{Cutting, Pieces, Succession};
 use crate::refusal::Refusal;
 use ls_archive::{Follower, Indexing};
 use ls_command::RecordRequest;
@@ -23,8 +29,9 @@ use std::sync::atomic::AtomicU64;
 use std::thread::Parker;
 use std::time::Duration;
 
-/// The writer of a film's codestreams: to the file of its recording, and to that of their index, if there is one.
-pub type Writer<'a, O> = Indexing<Counted<Target<'a, O>>, Counted<Target<'a, O>>>;
+/// The writer of a film's codestreams: to the file of its recording, or to pieces of it, and to the index of each, if there is
+/// one.
+pub type Writer<'a, O> = Counted<Pieces<'a, O>>;
 
 /// What a film's lane is given: its reader, its writer and its coding parameters.
 pub type Devices<'a, O> = (Limited<'a, Reader<'a, O>>, Writer<'a, O>, Tuning);
@@ -45,20 +52,22 @@ const PAUSE: u64 = 10;
 
 /// Opens each film but the named pipes. Only then, if no file is a duplicate or is being made by another program,
 /// makes the files of the report and of each recording. The devices are those of the films, in the order of the names,
-/// and so are the courses, if there are any.
-pub fn open_films<'a, R, O, E>(
-    rt: &R,
+/// and so are the courses, if there are any, and the chains, if the recordings are cut into pieces.
+pub fn open_films<'o, 'a, R, O, E>(
+    rt: &'o R,
     opener: O,
-    asked: &RecordRequest<'a>,
+    asked: &'o RecordRequest<'a>,
     names: &'a [Names<'a>],
     courses: &'a [Course],
+    chains: &'a [Chain<O>],
     console: &mut Console<E>,
 ) -> Result<Opened<'a, O>, Refusal<'a>>
 where
     R: Files + AllocGlobal + Wait,
-    O: Makes<File = R::File> + Copy + Drop,
+    O: Makes<File = R::File> + Copy + Drop + 'a,
+    R::File: 'a,
     E: Outlet,
-    ensures { IfOk result (λ opened. AllZip (AreDevicesOf O.holds R.File.remaining opener asked.now.tuning) names.now opened.devices.items) }
+    ensures { IfOk result (λ opened. AllZip (AreDevicesOf O.holds R.File.remaining O.kept opener asked.now.tuning) names.now opened.devices.items) }
 {
     let opening = Opening {
         rt,
@@ -66,6 +75,7 @@ where
         asked,
         names,
         courses,
+        chains,
     };
     let sources = opening.open_sources()?;
     let Made {
@@ -81,15 +91,16 @@ where
     })
 }
 
-/// The opening of films: the runtime and its opener, what is asked for, the films' names, and their courses, if they have
-/// any.
+/// The opening of films: the runtime and its opener, what is asked for, the films' names, and their courses and chains, if
+/// they have any.
 #[derive(Drop)]
-struct Opening<'o, 'a, R, O> {
+struct Opening<'o, 'a, R, O: Makes> {
     rt: &'o R,
     opener: O,
     asked: &'o RecordRequest<'a>,
     names: &'a [Names<'a>],
     courses: &'a [Course],
+    chains: &'a [Chain<O>],
 }
 
 /// The films and the report, once every lock is taken and before anything is changed.
@@ -117,7 +128,8 @@ struct Made<'a, O: Makes> {
 impl<'o, 'a, R, O> Opening<'o, 'a, R, O>
 where
     R: Files + AllocGlobal + Wait,
-    O: Makes<File = R::File> + Copy + Drop,
+    O: Makes<File = R::File> + Copy + Drop + 'a,
+    R::File: 'a,
 {
     /// Opens the films' files.
     fn open_sources(&self) -> Result<Vec<Source<'a, O>>, Refusal<'a>>
@@ -139,11 +151,11 @@ where
         sources: &[Source<'a, O>],
         console: &mut Console<E>,
     ) -> Result<Made<'a, O>, Refusal<'a>>
-        ensures { IfOk result (λ made. AllZip IsWriterFor self.now.names.now made.writers.items) }
+        ensures { IfOk result (λ made. AllZip (IsWriterFor O.kept) self.now.names.now made.writers.items) }
     {
         let folders = self.lock_folders()?;
         let claimed = self.claim(sources)?;
-        let made = make_claimed(self.rt.alloc(), claimed, console);
+        let made = make_claimed(self.rt.alloc(), self.opener, claimed, console);
         drop(folders);
         made
     }
@@ -201,9 +213,10 @@ where
             };
             films.push(Found::look(self.rt, names, identity))?;
         }
-        match written_twice(&films, self.asked.replace) {
-            Some(file) => Err(Refusal::Twice(file)),
-            None => Ok(films),
+        match (written_twice(&films, self.asked.replace), uncut(&films)) {
+            (Some(file), _) => Err(Refusal::Twice(file)),
+            (None, Some(recording)) => Err(Refusal::Uncut(recording)),
+            (None, None) => Ok(films),
         }
     }
 
@@ -214,7 +227,11 @@ where
         };
         let place = Place::of(self.rt, path);
         let replace = self.asked.replace;
-        if films.iter().any(|film| is_met(film, &place, replace) || has_beside_at(film, &place)) {
+        if films.iter().any(|film| {
+            is_met(film, &place, replace)
+                || has_beside_at(film, &place)
+                || could_be_piece(film, &place)
+        }) {
             return Err(Refusal::Twice(path));
         }
         Ok(Some(place))
@@ -243,9 +260,28 @@ where
         for film in found {
             let index = index_to_claim(film, found, report);
             let times = times_to_claim(film, found, report);
-            films.push(Film::claim(alloc, self.opener, film, index, times, self.asked.replace)?)?;
+            let pieces = pieces_to_claim(self.rt, film, found, report)?;
+            let cutting = self.cutting(films.len());
+            films.push(Film::claim(
+                alloc,
+                self.opener,
+                film,
+                index,
+                times,
+                pieces,
+                cutting,
+                self.asked.replace,
+            )?)?;
         }
         Ok(films)
+    }
+
+    /// Where the recording of the film of this number is cut into pieces, if it is.
+    fn cutting(&self, film: usize) -> Option<Cutting<'a, O>> {
+        Some(Cutting {
+            course: self.courses.get(film)?,
+            chain: self.chains.get(film)?,
+        })
     }
 
     /// What each film's lane is given. The tuning is that of all films. Requires a source and a writer for each film.
@@ -256,8 +292,8 @@ where
         console: &mut Console<E>,
     ) -> Result<Vec<Devices<'a, O>>, Refusal<'a>>
         requires sources { AllZip (λ names source. ReadsFileAt O.holds R.File.remaining self.now.opener names.file.now source) self.now.names.now sources.items }
-        requires writers { AllZip IsWriterFor self.now.names.now writers.items }
-        ensures { IfOk result (λ devices. AllZip (AreDevicesOf O.holds R.File.remaining self.now.opener self.now.asked.now.tuning) self.now.names.now devices.items) }
+        requires writers { AllZip (IsWriterFor O.kept) self.now.names.now writers.items }
+        ensures { IfOk result (λ devices. AllZip (AreDevicesOf O.holds R.File.remaining O.kept self.now.opener self.now.asked.now.tuning) self.now.names.now devices.items) }
     {
         let alloc = self.rt.alloc();
         let mut devices = Vec::new(alloc);
@@ -275,20 +311,21 @@ where
 /// Makes the files of the report and of each recording, whose places are claimed.
 fn make_claimed<'a, O, E>(
     alloc: Global,
+    opener: O,
     claimed: Claimed<'a, O>,
     console: &mut Console<E>,
 ) -> Result<Made<'a, O>, Refusal<'a>>
 where
     O: Makes + Copy + Drop,
     E: Outlet,
-    ensures { IfOk result (λ made. AllZip (λ film writer. IsWriterFor film.names.now writer) claimed.entry.films.items made.writers.items) }
+    ensures { IfOk result (λ made. AllZip (λ film writer. IsWriterFor O.kept film.names.now writer) claimed.entry.films.items made.writers.items) }
 {
     let Claimed { mut films, report } = claimed;
     let report = match report {
         Some(claimed) => Some(make_report(alloc, claimed, console)?),
         None => None,
     };
-    let writers = make_recordings(alloc, &mut films, console)?;
+    let writers = make_recordings(alloc, opener, &mut films, console)?;
     Ok(Made {
         films,
         writers,
@@ -315,25 +352,33 @@ where
 /// Makes the file of each recording, and those beside it that it is to have, and returns their writers.
 fn make_recordings<'a, O, E>(
     alloc: Global,
+    opener: O,
     films: &mut [Film<'a, O>],
     console: &mut Console<E>,
 ) -> Result<Vec<Writer<'a, O>>, Refusal<'a>>
 where
     O: Makes + Copy + Drop,
     E: Outlet,
-    ensures { IfOk result (λ writers. AllZip (λ film writer. IsWriterFor film.names.now writer) films.old writers.items) }
+    ensures { IfOk result (λ writers. AllZip (λ film writer. IsWriterFor O.kept film.names.now writer) films.old writers.items) }
 {
     let mut writers = Vec::new(alloc);
     for film in films.iter_mut() {
         let targets = film.make(alloc, console)?;
-        writers.push(writer_of(alloc, targets))?;
+        let succession = film.succession(alloc, opener);
+        writers.push(writer_of(alloc, opener, targets, succession))?;
     }
     Ok(writers)
 }
 
 /// The writer to the files of a recording.
-fn writer_of<'a, O: Opens + Drop>(alloc: Global, targets: Targets<'a, O>) -> Writer<'a, O>
-    ensures { target_of result ≡ targets.entry.recording }
+fn writer_of<'a, O: Makes + Copy + Drop>(
+    alloc: Global,
+    opener: O,
+    targets: Targets<'a, O>,
+    succession: Option<Succession<'a, O>>,
+) -> Writer<'a, O>
+    ensures target { target_of result ≡ targets.entry.recording }
+    ensures none { kept_of O.kept (wrapped result) ≡ [] }
 {
     let Targets {
         recording,
@@ -341,7 +386,8 @@ fn writer_of<'a, O: Opens + Drop>(alloc: Global, targets: Targets<'a, O>) -> Wri
         ..
     } = targets;
     let follower = index.map(|target| Follower::new(alloc, Counted::new(target)));
-    Indexing::new(Counted::new(recording), follower)
+    let piece = Indexing::new(Counted::new(recording), follower);
+    Counted::new(Pieces::new(alloc, opener, piece, succession))
 }
 
 /// The reader of a film, with a buffer, which notes on its course when bytes come, if that is wanted. If its pipe isn't

@@ -13,6 +13,8 @@ pub enum Refusal<'a> {
     NoMemory,
     /// A film, the file of a recording or the report is a duplicate.
     Twice(&'a str),
+    /// A recording is to be cut into pieces, and would be written into a pipe, a device or an open file.
+    Uncut(&'a str),
     /// A film can't be opened.
     Unopened(&'a str, io::Error),
     /// A file can't be made. `WouldBlock` means that another program is making it.
@@ -43,6 +45,11 @@ impl Refusal<'_> {
             Refusal::Twice(name) => {
                 let name = Shown(name);
                 console.say(format_args!("{name}: given twice"));
+                USAGE
+            }
+            Refusal::Uncut(name) => {
+                let name = Shown(name);
+                console.say(format_args!("{name}: isn't a file that pieces can follow"));
                 USAGE
             }
             Refusal::Unopened(file, fault) => {

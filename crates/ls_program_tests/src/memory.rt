@@ -1,9 +1,9 @@
 //! A file system in memory, whose files say their bytes.
-ghost use Rattle.std.specs.Prelude.{◌≡◌, Some, None, IfSome, IfNone};
-ghost use Rattle.ls_program_tests.specs.View.Files.{bytes_at};
+ghost use Rattle.std.specs.Prelude.{◌≡◌, [], true, Some, None, IfSome, IfNone};
+ghost use Rattle.ls_program_tests.specs.View.Files.{bytes_at, contents_of};
 
 use ls_files::{Makes, Opens};
-use std::alloc::Global;
+use std::alloc::{AllocError, Global};
 use std::fs::{Metadata, OpenFile};
 use std::io;
 use std::io::{ErrorKind, Read, Seek, SeekFrom, Write};
@@ -148,6 +148,40 @@ impl<'m, 'v> Opens for Memory<'m, 'v> {
 }
 
 impl<'m, 'v> Makes for Memory<'m, 'v> {
+    ghost use Rattle.ls_program_tests.specs.View.Files.{bytes_of_all};
+
+    type Finished = Vec<&'v mut Vec<u8>>;
+
+    ghost kept = { λ finished. bytes_of_all finished.items };
+
+    fn none_finished(&self, alloc: Global) -> Vec<&'v mut Vec<u8>> {
+        Vec::new(alloc)
+    }
+
+    /// Goes on with the file too if the next isn't empty.
+    fn succeed(
+        &self,
+        finished: &mut Vec<&'v mut Vec<u8>>,
+        file: &mut MemoryFile<'m, 'v>,
+        next: MemoryFile<'m, 'v>,
+    ) -> Result<(), AllocError> {
+        if !next.is_new() {
+            return Err(AllocError);
+        }
+        match file.written.take() {
+            Some(written) => match finished.push(written) {
+                Ok(()) => {}
+                Err(refused) => {
+                    file.written = Some(refused.value);
+                    return Err(AllocError);
+                }
+            },
+            None => {}
+        }
+        *file = next;
+        Ok(())
+    }
+
     fn create_new(&self, path: &str) -> io::Result<MemoryFile<'m, 'v>> {
         match (self.find(path), self.find_blank(path)) {
             (Some(_), _) => Err(io::Error::from(ErrorKind::AlreadyExists)),
@@ -217,6 +251,18 @@ pub struct MemoryFile<'m, 'v> {
     length: Option<&'m AtomicU64>,
 }
 
+impl<'m, 'v> MemoryFile<'m, 'v> {
+    /// Whether it was made and has no bytes yet.
+    fn is_new(&self) -> bool
+        ensures { result ≡ true → contents_of self.now ≡ Some [] }
+    {
+        match &self.written {
+            Some(written) => written.is_empty(),
+            None => false,
+        }
+    }
+}
+
 impl<'m, 'v> Read for MemoryFile<'m, 'v> {
     ghost use Rattle.std.specs.Prelude.{Some};
 
@@ -228,10 +274,9 @@ impl<'m, 'v> Read for MemoryFile<'m, 'v> {
 }
 
 impl<'m, 'v> Write for MemoryFile<'m, 'v> {
-    ghost use Rattle.std.specs.Prelude.{Some};
-    ghost use Rattle.ls_files.specs.View.Opened.{known_of};
+    ghost use Rattle.ls_program_tests.specs.View.Files.{contents_of};
 
-    ghost contents = { λ file. known_of (λ written. Some written.now.items) file.written };
+    ghost contents = { contents_of };
 
     fn write(&mut self, buf: &[u8]) -> io::Result<usize> {
         let Some(written) = &mut self.written else {

@@ -5,8 +5,8 @@ use Rattle.std.specs.Io.KnownBytes.{Appends}
 use Rattle.std.specs.List.{AllZip}
 use Rattle.ls_frame.specs.declared.netpbm.NetpbmFault.TheVariants.{Io}
 use Rattle.ls_frame.specs.declared.tuning.Tuning.{Tuning}
-use Rattle.ls_files.specs.declared.keeper.Targets.{Targets}
-use Rattle.ls_files.specs.View.Files.{held_by_target}
+use Rattle.ls_files.specs.View.Files.{joined_in}
+use Rattle.ls_frame.specs.View.Devices.{wrapped}
 use Rattle.ls_pieces.specs.Orders.{Ordered}
 use Rattle.ls_recorder.specs.declared.lane.LaneFault.{LaneFault}
 use Rattle.ls_recorder.specs.declared.lane.LaneFault.TheVariants.{Input, NotStarted}
@@ -15,8 +15,9 @@ use Rattle.ls_recorder.specs.declared.recording.Track.{Track}
 use Rattle.ls_recorder.specs.View.Lanes.{Records, StopsLane, RecordsBefore, tuned_file}
 use Rattle.ls_recorder.specs.View.Recordings.{IsTrack}
 use Rattle.ls_recorder.proofs.ListLemmas.{zip-more, zip-through, zip-weaker}
-use Rattle.ls_opening.specs.View.Devices.{FilmReader, FilmWriter, FilmDevices, left_of, target_of}
-use Rattle.ls_recording.specs.View.Films.{IsComplete, HasTrack, IsWhole, IsRecorded, held, was_stopped}
+use Rattle.ls_opening.specs.View.Devices.{FilmReader, FilmWriter, FilmDevices, finished_of, left_of, target_of}
+use Rattle.ls_recording.specs.declared.ending.EndedFiles.{EndedFiles}
+use Rattle.ls_recording.specs.View.Films.{IsComplete, HasTrack, IsWhole, IsRecorded, held, held_by, was_stopped}
 
 -- a recorder's tracks say what the lanes of their films did
 module _ {R W : Type 0} (remaining : R → Option (List ℕ)) (failed_reads : R → ℕ) (contents : W → Option (List ℕ)) (failed_writes : W → ℕ) where
@@ -32,12 +33,17 @@ abbrev fault-of : Result ℕ LaneFault → LaneFault
 fault-of (Ok n) = NotStarted
 fault-of (Err fault) = fault
 
-module _ {O F : Type 0} (remaining contents : F → Option (List ℕ)) (count : Option ℕ) where
-  recorded-so : (film : FilmDevices O F) (files : Targets O F) (reader : FilmReader O F) (writer : FilmWriter O F) (items : List Ordered) (r : Result ℕ LaneFault) (n : ℕ)
+module _ {O F D : Type 0} (remaining contents : F → Option (List ℕ)) (kept : D → List ℕ) (count : Option ℕ) where
+  -- the files of a film that has ended hold what its writer held
+  same-held : (files : EndedFiles O D F) (writer : FilmWriter O F D) → files.finished ≡ finished_of (wrapped writer) → files.open.recording ≡ target_of writer
+      → held contents kept writer ≡ held_by contents kept files
+  same-held files writer finished last = λ i. joined_in kept contents (sym finished i) (sym last i)
+
+  recorded-so : (film : FilmDevices O F D) (files : EndedFiles O D F) (reader : FilmReader O F) (writer : FilmWriter O F D) (items : List Ordered) (r : Result ℕ LaneFault) (n : ℕ)
       → (r ≡ Err NotStarted) ⊎ MatchResult r
-      (Records film.2 items (left_of remaining film.0) (left_of remaining reader) (held contents film.1) (held contents writer))
-      (StopsLane film.2 items (left_of remaining film.0) (left_of remaining reader) (held contents film.1) (held contents writer))
-      → IsComplete count r (was_stopped reader) n → files.recording ≡ target_of writer → IsRecorded remaining contents count film files
+      (Records film.2 items (left_of remaining film.0) (left_of remaining reader) (held contents kept film.1) (held contents kept writer))
+      (StopsLane film.2 items (left_of remaining film.0) (left_of remaining reader) (held contents kept film.1) (held contents kept writer))
+      → IsComplete count r (was_stopped reader) n → held contents kept writer ≡ held_by contents kept files → IsRecorded remaining contents kept count film files
   recorded-so film files reader writer items (Ok k) n (inl none) complete file = let clash : ⊥ = cc in absurd clash
   recorded-so film files reader writer items (Ok k) n (inr run) complete file = record {
     frames = run.run.frames;
@@ -45,7 +51,7 @@ module _ {O F : Type 0} (remaining contents : F → Option (List ℕ)) (count : 
     tuned = run.put.1;
     reader = reader;
     gave = inl run.run.gave;
-    wrote = subst (λ t. Appends (held contents film.1) (held_by_target contents t) (tuned_file film.2 run.run.frames)) (sym file) run.run.wrote;
+    wrote = subst (λ bytes. Appends (held contents kept film.1) bytes (tuned_file film.2 run.run.frames)) file run.run.wrote;
   }
   recorded-so film files reader writer items (Err fault) n (inl none) (inl ok) file = let clash : ⊥ = cc in absurd clash
   recorded-so film files reader writer items (Err fault) n (inl none) (inr stopped) file =
@@ -55,29 +61,29 @@ module _ {O F : Type 0} (remaining contents : F → Option (List ℕ)) (count : 
   recorded-so film files reader writer items (Err fault) n (inr stops) (inl ok) file = let clash : ⊥ = cc in absurd clash
   recorded-so film files reader writer items (Err fault) n (inr stops) (inr stopped) file =
       let is : fault ≡ Input n Io = ap fault-of stopped.0 in
-      let before : RecordsBefore film.2 items (left_of remaining film.0) (left_of remaining reader) (held contents film.1) (held contents writer) n Io =
-      subst (StopsLane film.2 items (left_of remaining film.0) (left_of remaining reader) (held contents film.1) (held contents writer)) is stops in
+      let before : RecordsBefore film.2 items (left_of remaining film.0) (left_of remaining reader) (held contents kept film.1) (held contents kept writer) n Io =
+      subst (StopsLane film.2 items (left_of remaining film.0) (left_of remaining reader) (held contents kept film.1) (held contents kept writer)) is stops in
       record {
         frames = before.run.frames;
         few = before.run.few;
         tuned = before.put.1;
         reader = reader;
         gave = inr (elim stopped.1 [ inl so ↦ inl so | inr all ↦ inr (all ∙ ap Some (sym before.run.count)) ], before.run.begins);
-        wrote = subst (λ t. Appends (held contents film.1) (held_by_target contents t) (tuned_file film.2 before.run.frames)) (sym file) before.run.wrote;
+        wrote = subst (λ bytes. Appends (held contents kept film.1) bytes (tuned_file film.2 before.run.frames)) file before.run.wrote;
       }
 
   -- the films whose tracks are whole were recorded to their files
-  pub all-recorded : (films : List (FilmDevices O F)) (tracks : List (Track (FilmReader O F) (FilmWriter O F))) (files : List (Targets O F))
-      → AllZip (HasTrack (left_of remaining) (held contents)) films tracks → AllZip (IsWhole count) tracks files → AllZip (IsRecorded remaining contents count) films files
+  pub all-recorded : (films : List (FilmDevices O F D)) (tracks : List (Track (FilmReader O F) (FilmWriter O F D))) (files : List (EndedFiles O D F))
+      → AllZip (HasTrack (left_of remaining) (held contents kept)) films tracks → AllZip (IsWhole count) tracks files → AllZip (IsRecorded remaining contents kept count) films files
   all-recorded films tracks files has whole = zip-weaker _ _ films files
       (λ film files both. let track = both.0 in
-      recorded-so film files track.reader track.writer both.1.0 track.result both.2.frames both.1.1 both.2.complete both.2.file)
+      recorded-so film files track.reader track.writer both.1.0 track.result both.2.frames both.1.1 both.2.complete (same-held files track.writer both.2.finished both.2.last))
       (zip-through _ _ films tracks files has whole)
 
   -- so they were if the recording ended
-  pub finished : {X : Type 0} (films : List (FilmDevices O F)) (recorded : Result (Recording (FilmReader O F) (FilmWriter O F)) X) (files : List (Targets O F))
-      → IfOk recorded (λ recording. AllZip (HasTrack (left_of remaining) (held contents)) films recording.tracks.items)
-      → MatchResult recorded (λ recording. AllZip (IsWhole count) recording.tracks.items files) (λ _. ⊥) → AllZip (IsRecorded remaining contents count) films files
+  pub finished : {X : Type 0} (films : List (FilmDevices O F D)) (recorded : Result (Recording (FilmReader O F) (FilmWriter O F D)) X) (files : List (EndedFiles O D F))
+      → IfOk recorded (λ recording. AllZip (HasTrack (left_of remaining) (held contents kept)) films recording.tracks.items)
+      → MatchResult recorded (λ recording. AllZip (IsWhole count) recording.tracks.items files) (λ _. ⊥) → AllZip (IsRecorded remaining contents kept count) films files
   finished films (Ok recording) files has whole = all-recorded films recording.tracks.items files has whole
   finished films (Err fault) files has whole = absurd whole
 

@@ -6,22 +6,25 @@ mod table;
 
 ghost use Rattle.std.specs.Prelude.{◌≡◌, ◌⊎◌, true, false, IfOk, IfSome, MatchResult};
 ghost use Rattle.std.specs.List.{AllZip};
+ghost use Rattle.ls_frame.specs.View.Devices.{wrapped};
+ghost use Rattle.ls_opening.specs.View.Devices.{target_of};
 ghost use Rattle.ls_recording.specs.View.Films.{IsComplete, IsWhole, was_stopped};
 
 use crate::recording::{FilmTrack, Recorded};
 use crate::watching::Watch;
-use crate::watching::times::{FilmTimes, TimesFile};
-use ls_archive::{Follower, IndexFault};
+use crate::watching::times::{BrokenTimes, FilmTimes, TimesFault, TimesFile};
+use ls_archive::IndexFault;
 use ls_command::MOST_FILMS;
 use ls_console::{
     Cause, Console, DONE, EndedIndex, FAILED, Shown, cause_of_input, explain, no_memory,
-    say_index_end, say_unsynced, write_text,
+    say_index_end, say_unmade, say_unsynced, write_text,
 };
-use ls_files::{Makes, Opens, Target, Targets};
+use ls_files::{INDEX, Makes, Opens, TIMES, Target, Targets, piece_path};
 use ls_frame::{Counted, Failed, NetpbmFault, Outlet};
-use ls_opening::{Film, Synced};
+use ls_opening::{BesideParts, BrokenIndex, Film, IndexFollower, Names, Parts, Synced};
 use ls_recorder::{LaneFault, Track};
 use std::alloc::{AllocError, Global};
+use std::io;
 use std::io::Write;
 use std::sync::Wait;
 use std::time::Clock;
@@ -29,15 +32,23 @@ use std::time::Clock;
 /// The ends of all films: their files, and whether each film was recorded completely and is on the disk with its index
 /// and its times, if it has them.
 #[derive(Drop)]
-pub struct Ends<'a, O: Opens> {
-    pub files: Vec<Targets<'a, O>>,
+pub struct Ends<'a, O: Makes> {
+    pub files: Vec<EndedFiles<'a, O>>,
     pub are_whole: bool,
+}
+
+/// The files of a film that has ended: the finished pieces of its recording, and those that are open, of its recording or of
+/// the last piece.
+#[derive(Drop)]
+pub struct EndedFiles<'a, O: Makes> {
+    pub finished: O::Finished,
+    pub open: Targets<'a, O>,
 }
 
 /// The end of a film likewise.
 #[derive(Drop)]
-struct End<'a, O: Opens> {
-    files: Targets<'a, O>,
+struct End<'a, O: Makes> {
+    files: EndedFiles<'a, O>,
     is_whole: bool,
 }
 
@@ -85,7 +96,7 @@ where
 }
 
 /// The ends of films of which not all are recorded, without files.
-fn no_files<'a, O: Opens>(alloc: Global) -> Ends<'a, O>
+fn no_files<'a, O: Makes>(alloc: Global) -> Ends<'a, O>
     ensures { result.are_whole ≡ false }
 {
     Ends {
@@ -121,7 +132,10 @@ where
             let written = watch.written(number);
             let own_times = take_times(rt, times, number);
             let was_told = is_told(&told, number);
-            let end = say_end(film, track, own_times, count, written, was_told, console);
+            let alloc = rt.alloc();
+            let end = say_end(
+                alloc, film, track, own_times, count, written, was_told, console,
+            );
             are_whole = are_whole & end.is_whole;
             files.push(end.files)?;
         }
@@ -168,13 +182,13 @@ where
 }
 
 /// Releases the files of recordings.
-pub fn release<O: Opens + Drop>(files: Vec<Targets<'_, O>>) {
+pub fn release<O: Makes + Drop>(files: Vec<EndedFiles<'_, O>>) {
     for recorded in files {
         let Targets {
             recording,
             index,
             times,
-        } = recorded;
+        } = recorded.open;
         recording.release();
         release_beside(index);
         release_beside(times);
@@ -189,7 +203,7 @@ fn release_beside<O: Opens + Drop>(file: Option<Target<'_, O>>) {
 }
 
 /// The file of the times of the film of this number, which has ended, if it has one.
-fn take_times<'a, R: Wait, O: Opens + Drop>(
+fn take_times<'a, R: Wait, O: Makes + Copy + Drop>(
     rt: &R,
     times: &[FilmTimes<'a, O>],
     film: usize,
@@ -208,6 +222,7 @@ fn is_told(told: &[bool], film: usize) -> bool {
 /// Settles a film's files, if they aren't settled yet, and says why it stopped, if it did and that wasn't said. Notes its
 /// number of frames only if its recording is complete.
 fn say_end<'a, O, E>(
+    alloc: Global,
     film: &mut Film<'_, O>,
     track: FilmTrack<'a, O>,
     times: Option<TimesFile<'a, O>>,
@@ -233,22 +248,30 @@ where
     film.is_stopped = reader.get_ref().get_ref().is_stopped();
     let result = outcome_of(result, film.is_stopped, count);
     let synced = film.settle(result.is_err(), written);
-    let (writer, follower, broken) = writer.into_parts();
+    let failure = writer.last_failure();
+    let Parts {
+        finished,
+        last,
+        beside,
+        unmade,
+    } = writer.into_inner().into_parts();
     if let Err(fault) = result {
         if !was_told {
             let shown = Shown(file);
             console.say(format_args!("{shown}: {fault}"));
         }
         match cause_of(fault) {
-            Cause::Writing => console.blame_writing(file, writer.last_failure(), Some(written)),
+            Cause::Writing => {
+                console.blame_writing(file, failure, Some(written));
+                say_unmade_piece(alloc, names, unmade, console);
+            }
             cause => explain(file, cause, reader, None, console),
         }
     }
-    let recording = writer.into_inner();
     let frames = match (result, synced.recording) {
         (Ok(frames), Ok(())) => Some(frames),
         (Ok(_), Err(failure)) => {
-            say_unsynced(file, &recording, failure, console);
+            say_unsynced(file, &last, failure, console);
             None
         }
         (Err(_), _) => None,
@@ -256,24 +279,27 @@ where
     if let Some(name) = film.left_over() {
         console.mention(names.recording.as_str(), name);
     }
-    let (index, times) = end_beside(film, follower, broken, times, synced, console);
+    let (index, times) = end_beside(alloc, film, beside, times, synced, console);
     film.frames = frames;
     End {
-        files: Targets {
-            recording,
-            index,
-            times,
+        files: EndedFiles {
+            finished,
+            open: Targets {
+                recording: last,
+                index,
+                times,
+            },
         },
         is_whole: frames.is_some() && !film.is_beside_broken,
     }
 }
 
-/// Says why the files beside a recording aren't whole, if they aren't, and returns those that it has: its index, and the
-/// times of its frames.
+/// Says why the files beside a recording, or beside pieces of it, aren't whole, if they aren't, and returns those that it or
+/// its last piece has: its index, and the times of its frames.
 fn end_beside<'a, O, E>(
+    alloc: Global,
     film: &mut Film<'_, O>,
-    follower: Option<Follower<Counted<Target<'a, O>>>>,
-    broken: Option<IndexFault>,
+    beside: BesideParts<'a, O>,
     times: Option<TimesFile<'a, O>>,
     synced: Synced,
     console: &mut Console<E>,
@@ -282,21 +308,82 @@ where
     O: Makes + Copy + Drop,
     E: Outlet,
 {
+    let BesideParts {
+        follower,
+        fault,
+        broken,
+        piece,
+    } = beside;
+    say_broken_index(alloc, film, broken, console);
     let index = match follower {
-        Some(follower) => Some(end_index(film, follower, synced.index, broken, console)),
+        Some(follower) => {
+            let index = end_index(alloc, film, piece, follower, synced.index, fault, console);
+            Some(index)
+        }
         None => None,
     };
     let times = match times {
-        Some(times) => Some(end_times(film, times, synced.times, console)),
+        Some(times) => Some(end_times(alloc, film, times, synced.times, console)),
         None => None,
     };
     (index, times)
 }
 
-/// Says why the index of a film isn't whole, if it isn't, and returns its file.
-fn end_index<'a, O, E>(
+/// Says which piece couldn't be made, if one couldn't, and why, if reasons are on.
+fn say_unmade_piece<E: Outlet>(
+    alloc: Global,
+    names: &Names<'_>,
+    unmade: Option<(u32, io::Error)>,
+    console: &mut Console<E>,
+) {
+    if let Some((piece, fault)) = unmade {
+        if let Ok(path) = piece_path(alloc, names.recording.as_str(), piece) {
+            let _failed = say_unmade(&path, fault, console);
+        }
+    }
+}
+
+/// The path of an index or of times, by its ending: beside the recording, or beside a later piece of it.
+fn beside_path(
+    alloc: Global,
+    names: &Names<'_>,
+    piece: u32,
+    ending: &str,
+) -> Result<String, AllocError> {
+    let recording = piece_path(alloc, names.recording.as_str(), piece)?;
+    format!(in alloc; "{recording}{ending}")
+}
+
+/// Says why the index of a finished piece isn't whole, if one isn't.
+fn say_broken_index<'a, O, E>(
+    alloc: Global,
     film: &mut Film<'_, O>,
-    follower: Follower<Counted<Target<'a, O>>>,
+    broken: Option<BrokenIndex<'a, O>>,
+    console: &mut Console<E>,
+)
+where
+    O: Makes + Copy + Drop,
+    E: Outlet,
+{
+    if let Some(
+        BrokenIndex {
+            piece,
+            follower,
+            fault,
+        },
+    ) = broken
+    {
+        let _target = end_index(alloc, film, piece, follower, Ok(()), Some(fault), console);
+    }
+}
+
+/// Says why the index of a film isn't whole, if it isn't, and returns its file: of the piece of this number, if the recording
+/// is cut into pieces.
+fn end_index<'a, O, E>(
+    alloc: Global,
+    film: &mut Film<'_, O>,
+    piece: u32,
+    follower: IndexFollower<'a, O>,
     synced: Result<(), Failed>,
     broken: Option<IndexFault>,
     console: &mut Console<E>,
@@ -306,7 +393,11 @@ where
     E: Outlet,
 {
     let broken = broken.map(|fault| (fault, cause_of_index(fault)));
-    let path = film.names.index.as_str();
+    let path = beside_path(alloc, film.names, piece, INDEX);
+    let path = match &path {
+        Ok(path) => path.as_str(),
+        Err(_) => film.names.index.as_str(),
+    };
     let EndedIndex { is_whole, target } = say_index_end(
         path,
         follower.into_inner(),
@@ -314,12 +405,13 @@ where
         broken,
         console,
     );
-    film.is_beside_broken = !is_whole;
+    film.is_beside_broken = film.is_beside_broken | !is_whole;
     target
 }
 
-/// Says why not all times of a film were written, if they weren't, and returns their file.
+/// Says why not all times of a film were written, if they weren't, and returns their file, or that of the last piece.
 fn end_times<'a, O, E>(
+    alloc: Global,
     film: &mut Film<'_, O>,
     times: TimesFile<'a, O>,
     synced: Result<(), Failed>,
@@ -329,15 +421,48 @@ where
     O: Makes + Copy + Drop,
     E: Outlet,
 {
-    let broken = times.fault.map(|fault| (fault, fault.cause()));
-    let path = film.names.times.as_str();
-    let EndedIndex { is_whole, target } = say_index_end(
-        path,
-        times.output,
-        synced,
+    let TimesFile {
+        piece,
+        output,
+        fault,
         broken,
-        console,
-    );
+        ..
+    } = times;
+    if let Some(
+        BrokenTimes {
+            piece,
+            output,
+            fault,
+        },
+    ) = broken
+    {
+        let fault = Some(fault);
+        let _target = end_times_of(alloc, film, piece, output, Ok(()), fault, console);
+    }
+    end_times_of(alloc, film, piece, output, synced, fault, console)
+}
+
+/// Says why not all times of a piece were written, if they weren't, and returns their file.
+fn end_times_of<'a, O, E>(
+    alloc: Global,
+    film: &mut Film<'_, O>,
+    piece: u32,
+    output: Counted<Target<'a, O>>,
+    synced: Result<(), Failed>,
+    fault: Option<TimesFault>,
+    console: &mut Console<E>,
+) -> Target<'a, O>
+where
+    O: Makes + Copy + Drop,
+    E: Outlet,
+{
+    let broken = fault.map(|fault| (fault, fault.cause()));
+    let path = beside_path(alloc, film.names, piece, TIMES);
+    let path = match &path {
+        Ok(path) => path.as_str(),
+        Err(_) => film.names.times.as_str(),
+    };
+    let EndedIndex { is_whole, target } = say_index_end(path, output, synced, broken, console);
     film.is_beside_broken = film.is_beside_broken | !is_whole;
     target
 }

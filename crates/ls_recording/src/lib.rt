@@ -21,6 +21,7 @@
 //!     R: Host + Clock + Threads + Wait + Sync,
 //!     O: Makes<File = R::File> + Copy + Send,
 //!     R::File: Send,
+//!     O::Finished: Send,
 //!     W: Write + Send,
 //!     E: Outlet + Send,
 //! {

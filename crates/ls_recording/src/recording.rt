@@ -2,22 +2,24 @@
 ghost use Rattle.std.specs.Prelude.{◌≡◌, true, List, IfOk, IfErr, MatchResult};
 ghost use Rattle.std.specs.List.{AllZip};
 ghost use Rattle.ls_opening.specs.View.Devices.{left_of};
-ghost use Rattle.ls_recording.specs.View.Films.{HasTrack, IsRefused, IsWhole, IsRecorded, HasRecorded, held};
-ghost use Rattle.ls_files.specs.declared.keeper.Targets.{Targets};
+ghost use Rattle.ls_recording.specs.View.Films.{HasTrack, IsRefused, IsWhole, IsRecorded, AreRecorded, HasRecorded, held};
+ghost use Rattle.ls_recording.specs.declared.ending.EndedFiles.{EndedFiles};
 
 use crate::ending::report::{report_of, write_report};
-use crate::ending::{Ends, end_films, release, say_counts};
+use crate::ending::{EndedFiles, Ends, end_films, release, say_counts};
 use crate::watching::Watch;
 use crate::watching::keeping::keep_files;
 use crate::watching::limiting::Limiting;
 use crate::watching::progress::Teller;
 use crate::watching::schedule::{Deadline, Syncs};
-use crate::watching::times::FilmTimes;
+use crate::watching::times::{FilmTimes, PendingTimes};
 use ls_command::RecordRequest;
 use ls_console::{DONE, FAILED, Host, Program, Reader, no_memory};
-use ls_files::{Makes, Opens, Targets};
+use ls_files::Makes;
 use ls_frame::{Feed, Outlet, Tuning};
-use ls_opening::{Course, Devices, Film, Limited, Opened, Writer, names_once, open_films};
+use ls_opening::{
+    Chain, Course, Devices, Film, Limited, Names, Opened, Writer, names_once, open_films,
+};
 use ls_recorder::{Gate, RecordFault, Recording as Tracks, Track, record};
 use std::alloc::{AllocError, Global};
 use std::io::Write;
@@ -40,22 +42,24 @@ pub type Recorded<'a, O> = Result<
 
 /// The end of a recording: the status to exit with, and the files of each film.
 #[derive(Drop)]
-struct Finished<'a, O: Opens> {
+struct Finished<'a, O: Makes> {
     status: u8,
-    files: Vec<Targets<'a, O>>,
+    files: Vec<EndedFiles<'a, O>>,
 }
 
 /// Records the films that are asked for, says how each ended, and returns the status. On a terminal progress is always
-/// shown. With `DONE` each film was recorded from its own file to its own recording, with the tuning asked for: to its
-/// end, as far as it was read when the program was asked to stop, or as many frames of it as are asked for.
+/// shown. With `DONE` each film was recorded from its own file to its own recording, or to pieces that are the recording
+/// one after the other, with the tuning asked for: to its end, as far as it was read when the program was asked to stop, or as
+/// many frames of it as are asked for.
 pub fn record_films<R, O, W, E>(program: Program<'_, R, O, W, E>, asked: RecordRequest<'_>) -> u8
 where
     R: Host + Clock + Threads + Wait + Sync,
     O: Makes<File = R::File> + Copy + Send,
     R::File: Send,
+    O::Finished: Send,
     W: Write + Send,
     E: Outlet + Send,
-    ensures { result ≡ DONE → HasRecorded O.holds R.File.remaining R.File.contents program.entry.opener asked.entry.tuning asked.entry.count asked.entry.files.items }
+    ensures { result ≡ DONE → HasRecorded O.holds R.File.remaining R.File.contents O.kept program.entry.opener asked.entry.tuning asked.entry.count asked.entry.files.items }
 {
     let columns = program.console.columns_of_all(asked.files.len());
     let names = match names_once(program.rt.alloc(), &asked, columns) {
@@ -63,18 +67,48 @@ where
         Err(refusal) => return refusal.say(program.console),
     };
     let alloc = program.rt.alloc();
-    let Ok(courses) = Course::of_each(alloc, names.len(), asked.count, asked.times) else {
+    let Ok(courses) = Course::of_each(alloc, names.len(), asked.count, asked.times, asked.pieces)
+    else {
         return no_memory(program.console);
     };
+    let Ok(chains) = Chain::<O>::of_each(alloc, chains_of(&asked, names.len())) else {
+        return no_memory(program.console);
+    };
+    record_named(program, &asked, &names, &courses, &chains)
+}
+
+/// The number of films whose recordings are cut into pieces, of as many as there are.
+fn chains_of(asked: &RecordRequest<'_>, films: usize) -> usize {
+    if asked.pieces.is_some() { films } else { 0 }
+}
+
+/// Records the films of these names, as `record_films` does. Each has its course and its chain, if there are any.
+fn record_named<'a, R, O, W, E>(
+    program: Program<'_, R, O, W, E>,
+    asked: &'a RecordRequest<'a>,
+    names: &'a [Names<'a>],
+    courses: &'a [Course],
+    chains: &'a [Chain<O>],
+) -> u8
+where
+    R: Host + Clock + Threads + Wait + Sync,
+    O: Makes<File = R::File> + Copy + Send,
+    R::File: Send,
+    O::Finished: Send,
+    W: Write + Send,
+    E: Outlet + Send,
+    ensures { result ≡ DONE → AreRecorded O.holds R.File.remaining R.File.contents O.kept program.entry.opener asked.now.tuning asked.now.count names.now }
+{
     match open_films(
         program.rt,
         program.opener,
-        &asked,
-        &names,
-        &courses,
+        asked,
+        names,
+        courses,
+        chains,
         program.console,
     ) {
-        Ok(opened) => record_opened(program, &asked, &courses, opened),
+        Ok(opened) => record_opened(program, asked, courses, opened),
         Err(refusal) => refusal.say(program.console),
     }
 }
@@ -92,9 +126,10 @@ where
     R: Host + Clock + Threads + Wait + Sync,
     O: Makes + Copy + Send,
     O::File: Send,
+    O::Finished: Send,
     W: Write + Send,
     E: Outlet + Send,
-    ensures { result ≡ DONE → (files : List (Targets O O.File)) × AllZip (IsRecorded O.File.remaining O.File.contents asked.now.count) opened.entry.devices.items files }
+    ensures { result ≡ DONE → (files : List (EndedFiles O O.Finished O.File)) × AllZip (IsRecorded O.File.remaining O.File.contents O.kept asked.now.count) opened.entry.devices.items files }
 {
     let Program {
         rt,
@@ -161,7 +196,8 @@ fn times_of<'a, O: Makes + Copy + Drop>(
     let mut times = Vec::new(alloc);
     for film in films.iter_mut() {
         if let Some(target) = film.take_times() {
-            times.push(FilmTimes::new(alloc, opener, target)?)?;
+            let path = film.names.times.as_str();
+            times.push(PendingTimes::new(alloc, opener, path, target, film.cutting())?)?;
         }
     }
     Ok(times)
@@ -184,9 +220,10 @@ where
     R: AllocGlobal + Clock + Threads + Wait + Sync,
     O: Makes + Copy + Send,
     O::File: Send,
+    O::Finished: Send,
     W: Write + Send,
     E: Outlet + Send,
-    ensures { IfOk result (λ recording. AllZip (HasTrack (left_of O.File.remaining) (held O.File.contents)) devices.entry.items recording.tracks.items) }
+    ensures { IfOk result (λ recording. AllZip (HasTrack (left_of O.File.remaining) (held O.File.contents O.kept)) devices.entry.items recording.tracks.items) }
 {
     let syncs = Syncs::new(asked);
     let gate = Limiting {

@@ -36,7 +36,8 @@ pub struct Watch<'r, R> {
     over: AtomicBool,
     lasted: AtomicU64,
     /// These wake the thread that says progress and the one that keeps the films' files when a film's first codestream
-    /// is written, a film stops or ends, or the recording ends; and the first also when the second has noted something.
+    /// is written, a film stops or ends, or the recording ends; and the first also when the second has noted something, the
+    /// second also when a piece of a recording is finished.
     telling: Parker,
     keeping: Parker,
 }
@@ -174,13 +175,18 @@ impl<'r, R: Clock> Watch<'r, R> {
         self.telling.park_timeout(self.clock, longest);
     }
 
-    /// Waits `longest` at most; less if a film's first codestream is written, a film stops or ends, or the recording
-    /// ends. For the thread that keeps the films' files.
+    /// Waits `longest` at most; less if a film's first codestream is written, a piece of a recording is finished, a film
+    /// stops or ends, or the recording ends. For the thread that keeps the films' files.
     pub fn wait_for_files(&self, longest: Duration)
     where
         R: Wait,
     {
         self.keeping.park_timeout(self.clock, longest);
+    }
+
+    /// Notes that a piece of a recording is finished.
+    pub fn note_finished(&self) {
+        self.keeping.unpark();
     }
 
     fn ring(&self) {

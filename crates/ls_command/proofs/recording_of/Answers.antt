@@ -20,4 +20,5 @@ returns c = (
   },
   refl,
   refl,
+  refl,
 )

@@ -7,12 +7,13 @@ use Rattle.clap.specs.declared.parser.matches.ArgMatches.{ArgMatches}
 use Rattle.clap.specs.Matches.{found_of, first_value, one_text, matched_of, raw_values, subcommand_name_of}
 use Rattle.clap.specs.Walk.{rows_of}
 use Rattle.ls_frame.specs.declared.tuning.Tuning.{Tuning}
+use Rattle.ls_command.specs.declared.cut.Cut.{Cut}
 use Rattle.ls_command.specs.declared.frames.Frames.{Frames}
 use Rattle.ls_command.specs.declared.RecordRequest.{RecordRequest}
 use Rattle.ls_command.specs.declared.Request.{Request}
 use Rattle.ls_command.specs.declared.Request.TheVariants as request
 use Rattle.ls_command.specs.declared.limits.TheConstants.{MOST_FILMS}
-use Rattle.ls_command.specs.View.Asked.{ReadsFrames, ReadsPreset}
+use Rattle.ls_command.specs.View.Asked.{ReadsFrames, ReadsCut, ReadsPreset}
 
 -- the texts behind references
 abbrev pub texts_of : List (Bor (List ℕ)) → List (List ℕ)
@@ -50,6 +51,11 @@ module _ (words : ArgMatches) where
   AsksFrames None = HasText (codes "frames") None
   AsksFrames (Some frames) = (text : List ℕ) × HasText (codes "frames") (Some text) × ReadsFrames text (Some frames)
 
+  -- where the recordings are cut by `--pieces`; none, if it isn't given
+  abbrev pub AsksPieces : Option Cut → Type 0
+  AsksPieces None = HasText (codes "pieces") None
+  AsksPieces (Some cut) = (text : List ℕ) × HasText (codes "pieces") (Some text) × ReadsCut text (Some cut)
+
   -- the workers of `--workers`, or one
   abbrev pub AsksWorkers : ℕ → Type 0
   AsksWorkers workers = (given : Option ℕ) × ReadsNumber (2 ^ 8) (codes "workers") given × (workers ≡ unwrap_or given 1)
@@ -66,7 +72,7 @@ module _ (words : ArgMatches) where
   abbrev pub ArePairsOf : List (Bor (List ℕ) × Bor (List ℕ)) → Type 0
   ArePairsOf pairs = (film : List ℕ) × HasText (codes "FILM") (Some film) × (texts_in_turn pairs ≡ film ∷ files_in)
 
-  -- What is asked for beside tuning and films.
+  -- What is asked for beside tuning, pieces and films.
   pub record AsksSettings (asked : RecordRequest) : Type 0 where
     pub workers : ReadsNumber (2 ^ 64) (codes "workers") (Some asked.workers)
     pub capacity : ReadsNumber (2 ^ 64) (codes "queue") (Some asked.capacity)
@@ -88,13 +94,14 @@ module _ (words : ArgMatches) where
     pub preset : Option (Bor (List ℕ))
     pub preset_is : HasText (codes "preset") (text_in preset)
     pub tuning : ReadsPreset preset (Some asked.tuning)
+    pub pieces : AsksPieces asked.pieces
     pub files : texts_of asked.files.items ≡ files_in
     pub few : length asked.files.items ≤ MOST_FILMS
 
-  -- the recording that is asked for with this tuning and these films
-  abbrev pub AsksToRecord : Tuning → List (Bor (List ℕ)) → Request → Type 0
-  AsksToRecord tuning files (request.Record asked) = AsksSettings asked × (asked.tuning ≡ tuning) × (asked.files.items ≡ files)
-  AsksToRecord tuning files _ = ⊥
+  -- the recording that is asked for with this tuning, in these pieces and of these films
+  abbrev pub AsksToRecord : Tuning → Option Cut → List (Bor (List ℕ)) → Request → Type 0
+  AsksToRecord tuning pieces files (request.Record asked) = AsksSettings asked × (asked.tuning ≡ tuning) × (asked.pieces ≡ pieces) × (asked.files.items ≡ files)
+  AsksToRecord tuning pieces files _ = ⊥
 
   -- the request that the words of the command of this name make
   abbrev pub Asks : List ℕ → Request → Type 0

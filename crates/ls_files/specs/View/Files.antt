@@ -1,5 +1,6 @@
 -- The files of sources and targets, and what is known of their bytes.
 use Rattle.std.specs.Prelude.{◌≡◌, ◌⊎◌, ℕ, List, Option, None}
+use Rattle.std.specs.Io.KnownBytes.{prepend_known}
 use Rattle.ls_files.specs.declared.source.Source.{Source}
 use Rattle.ls_files.specs.declared.target.Target.{Target}
 use Rattle.ls_files.specs.View.Opened.{known_of}
@@ -20,3 +21,7 @@ module _ {O F : Type 0} where
   -- the path of a target, as it was given
   abbrev pub path_of_target : Target O F → List ℕ
   path_of_target target = target.path.now
+
+  -- what is known of the bytes of finished files, of which `kept` says these, and then of those in a target's file
+  abbrev pub joined_in : {D : Type 0} → (D → List ℕ) → (F → Option (List ℕ)) → D → Target O F → Option (List ℕ)
+  joined_in kept contents finished target = prepend_known (kept finished) (held_by_target contents target)

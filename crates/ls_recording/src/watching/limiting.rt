@@ -1,16 +1,17 @@
-//! Ends films after as many frames of each as were asked for, and has the times of their frames written.
+//! Ends films after as many frames of each as were asked for, and has the times of their frames written and their recordings
+//! cut into pieces.
 use super::Watch;
 use super::times::FilmTimes;
-use ls_files::Opens;
+use ls_files::Makes;
 use ls_opening::Course;
 use ls_recorder::{Gate, Moment, Notice};
 use std::sync::Wait;
 use std::time::Clock;
 
-/// A gate that notes on the films' courses, if they have any, which frames are read; has their times written, if those are
-/// wanted; and passes everything on to a watch.
+/// A gate that notes on the films' courses, if they have any, which frames are read and written; has their times written, if
+/// those are wanted; and passes everything on to a watch.
 #[derive(Drop)]
-pub struct Limiting<'w, 'r, 'c, 't, 'a, R, O: Opens> {
+pub struct Limiting<'w, 'r, 'c, 't, 'a, R, O: Makes> {
     pub watch: &'w Watch<'r, R>,
     pub courses: &'c [Course],
     pub times: &'t [FilmTimes<'a, O>],
@@ -18,8 +19,8 @@ pub struct Limiting<'w, 'r, 'c, 't, 'a, R, O: Opens> {
 
 impl<'w, 'r, 'c, 't, 'a, R, O> Limiting<'w, 'r, 'c, 't, 'a, R, O>
 where
-    R: Wait,
-    O: Opens + Drop,
+    R: Clock + Wait,
+    O: Makes + Copy + Drop,
 {
     /// Notes an event of the film of this number, which has this course.
     fn note(&self, course: &Course, film: usize, notice: Notice) {
@@ -32,6 +33,10 @@ where
                 }
             }
             Notice::Written { number, .. } => {
+                course.wrote(self.watch.age());
+                if course.is_new_piece() {
+                    self.watch.note_finished();
+                }
                 if let Some(times) = self.times.get(film) {
                     times.write(self.watch.clock, number);
                 }
@@ -44,7 +49,7 @@ where
 impl<'w, 'r, 'c, 't, 'a, R, O> Gate for Limiting<'w, 'r, 'c, 't, 'a, R, O>
 where
     R: Clock + Wait + Sync,
-    O: Opens + Drop + Send,
+    O: Makes + Copy + Drop + Send,
     O::File: Send,
 {
     fn pass(&self, source: u8, number: u64, moment: Moment) {

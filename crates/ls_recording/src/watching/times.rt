@@ -1,13 +1,14 @@
 //! Writes when each frame of a film came and when it was recorded, as `record --times` wants it.
 use ls_console::Cause;
-use ls_files::{Opens, Target};
+use ls_files::{Makes, Opens, Target};
 use ls_frame::{Counted, write_bytes};
+use ls_opening::Cutting;
 use ls_recorder::MOST_WINDOW;
 use std::alloc::{AllocError, Global};
-use std::fmt;
 use std::fmt::{Display, Formatter};
 use std::sync::atomic::{AtomicU64, Ordering};
 use std::sync::{Mutex, Wait};
+use std::{fmt, mem};
 
 /// Why not all times of a film were written.
 #[derive(Clone, Copy)]
@@ -36,20 +37,60 @@ impl TimesFault {
     }
 }
 
-/// The file of a film's times, and why no more are written to it, if that is so.
+/// The file of a film's times, or of those of the last piece of its recording, and why no more are written to it, if that is
+/// so.
 #[derive(Drop)]
-pub struct TimesFile<'a, O: Opens> {
+pub struct TimesFile<'a, O: Makes> {
     alloc: Global,
     /// It reads the clock.
     opener: O,
+    path: &'a str,
+    /// Where the recording is cut into pieces, if it is.
+    cutting: Option<Cutting<'a, O>>,
+    /// The number of the piece.
+    pub piece: u32,
     pub output: Counted<Target<'a, O>>,
     pub fault: Option<TimesFault>,
+    /// The first file of another piece to which not all times were written.
+    pub broken: Option<BrokenTimes<'a, O>>,
 }
 
-impl<'a, O: Opens> TimesFile<'a, O> {
+/// The file of the times of a piece, and why not all of them were written.
+#[derive(Drop)]
+pub struct BrokenTimes<'a, O: Opens> {
+    pub piece: u32,
+    pub output: Counted<Target<'a, O>>,
+    pub fault: TimesFault,
+}
+
+impl<'a, O: Makes + Copy + Drop> TimesFile<'a, O> {
+    /// Goes on with the file of the next piece, if that was begun.
+    fn follow(&mut self) {
+        let Some(cutting) = self.cutting else {
+            return;
+        };
+        let Some(file) = cutting.chain.take_times() else {
+            return;
+        };
+        let next = Counted::new(Target::opened(self.opener, self.path, file));
+        let output = mem::replace(&mut self.output, next);
+        if let Some(fault) = self.fault.take() {
+            if self.broken.is_none() {
+                let piece = self.piece;
+                self.broken = Some(BrokenTimes {
+                    piece,
+                    output,
+                    fault,
+                });
+            }
+        }
+        self.piece = cutting.chain.begun();
+    }
+
     /// Writes the line of the frame of this number, of which the first byte and the last came at these times, and whose
-    /// codestream has just been written to the recording. After a fault no more lines are written.
+    /// codestream has just been written to the recording. After a fault no more lines are written to the file.
     fn write(&mut self, number: u64, first: u64, last: u64) {
+        self.follow();
         if self.fault.is_none() {
             let out = self.opener.now();
             self.fault = match format!(in self.alloc; "{number} {first} {last} {out}\n") {
@@ -70,30 +111,40 @@ impl<'a, O: Opens> TimesFile<'a, O> {
 
 /// The times of a film's frames that aren't written yet, and the file to which they are written. The thread that reads the
 /// film notes them, and the one that writes its recording writes them.
+pub type FilmTimes<'a, O> = PendingTimes<TimesFile<'a, O>>;
+
+/// Times that aren't written yet, and the file `F` to which they are written.
 #[derive(Drop)]
-pub struct FilmTimes<'a, O: Opens> {
+pub struct PendingTimes<F> {
     /// When the first byte and the last of each frame came, at its number modulo the widest window.
     first: Vec<AtomicU64>,
     last: Vec<AtomicU64>,
     /// The file, until the film has ended. Only one thread at a time uses it.
-    file: Mutex<Option<TimesFile<'a, O>>>,
+    file: Mutex<Option<F>>,
 }
 
-impl<'a, O: Opens + Drop> FilmTimes<'a, O> {
-    /// Times to be written to this file. The opener reads the clock.
+impl<'a, O: Makes + Copy + Drop> PendingTimes<TimesFile<'a, O>> {
+    /// Times to be written to this file at a path, and to those of further pieces of the recording if it is cut into such.
+    /// The opener reads the clock.
     pub fn new(
         alloc: Global,
         opener: O,
+        path: &'a str,
         target: Target<'a, O>,
+        cutting: Option<Cutting<'a, O>>,
     ) -> Result<FilmTimes<'a, O>, AllocError> {
-        Ok(FilmTimes {
+        Ok(PendingTimes {
             first: places(alloc)?,
             last: places(alloc)?,
             file: Mutex::new(Some(TimesFile {
                 alloc,
                 opener,
+                path,
+                cutting,
+                piece: 0,
                 output: Counted::new(target),
                 fault: None,
+                broken: None,
             })),
         })
     }

@@ -18,11 +18,11 @@ loop-film-preserved g c =
     let less : i < length films = search rules in
     let pushed : c.push.new.self.items ≡ c.loop-film.writers.items ++ c.writer_of.result ∷ [] = search rules in
     record {
-      made = rw pushed (zip-next (λ film writer. IsWriterFor film.names.now writer) films i c.loop-film.writers.items film c.writer_of.result less
-          (c.film-item.is ∙ c.loop-film.invariant.left i film (omega arith)) c.loop-film.invariant.made (ap path_of_target c.writer_of.ensures ∙ c.in_ok-targets.ensures.path ∙ ap (λ f. string_bytes f.names.now.recording) (sym c.film-item.is)));
+      made = rw pushed (zip-next (λ film writer. IsWriterFor g.O.Makes.kept film.names.now writer) films i c.loop-film.writers.items film c.writer_of.result less
+          (c.film-item.is ∙ c.loop-film.invariant.left i film (omega arith)) c.loop-film.invariant.made (ap path_of_target c.writer_of.ensures.target ∙ c.in_ok-targets.ensures.path ∙ ap (λ f. string_bytes f.names.now.recording) (sym c.film-item.is), c.writer_of.ensures.none));
       left = λ k d later. let ne : k ≢ i = omega (arith, later) in rw get_or-set_other (c.loop-film.invariant.left k d (omega (arith, later)));
     }
 
 pub returns : goal.returns
 returns g c =
-    subst (λ l. AllZip (λ film writer. IsWriterFor film.names.now writer) l c.loop-film.writers.items) (take_all c.loop-film.film-index c.args.films.now (search rules)) c.loop-film.invariant.made
+    subst (λ l. AllZip (λ film writer. IsWriterFor g.O.Makes.kept film.names.now writer) l c.loop-film.writers.items) (take_all c.loop-film.film-index c.args.films.now (search rules)) c.loop-film.invariant.made

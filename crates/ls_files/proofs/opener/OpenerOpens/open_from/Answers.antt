@@ -1,4 +1,4 @@
-use Rattle.std.proofs.Common.{◌≡◌, ℕ, List, ◌++◌, replicate, drop, Option, None, Some, refl, sym, ap}
+use Rattle.std.proofs.Common.{ℕ, List, ◌++◌, replicate, Option, None, Some, refl, sym, ap}
 use Rattle.std.proofs.lemmas.List.{drop_at, length-replicate}
 use Rattle.ls_files.specs.View.Opened.{HoldsFrom}
 use Rattle.ls_files.proofs.opener.OpenerOpens.open_from.Goals as goal

@@ -19,24 +19,24 @@ remove-writer-requires g c =
     omega (arith, some, c.loop-film.writers.ok)
 
 pub returns : goal.returns
-returns g c = subst (λ l. AllZip (AreDevicesOf g.O.Opens.holds g.R.File.Read.remaining c.args.self.now.opener c.args.self.now.asked.now.tuning) l c.loop-film.devices.items) (take_all c.loop-film.film-index c.args.self.now.names.now (search rules)) c.loop-film.invariant.devices
+returns g c = subst (λ l. AllZip (AreDevicesOf g.O.Opens.holds g.R.File.Read.remaining g.O.Makes.kept c.args.self.now.opener c.args.self.now.asked.now.tuning) l c.loop-film.devices.items) (take_all c.loop-film.film-index c.args.self.now.names.now (search rules)) c.loop-film.invariant.devices
 
 pub loop-film-preserved : goal.loop-film-preserved
 loop-film-preserved g c =
     let names = c.args.self.now.names.now in
     let i = c.loop-film.film-index in
     let film = c.film-item.result in
-    let device : FilmDevices g.row.O.Denot g.row.R-File.Denot = (c.new-limited.result, c.remove-writer.result, c.args.self.now.asked.now.tuning) in
+    let device : FilmDevices g.row.O.Denot g.row.R-File.Denot g.row.O-Finished.Denot = (c.new-limited.result, c.remove-writer.result, c.args.self.now.asked.now.tuning) in
     let less : i < length names = search rules in
     let source = zip-first (λ names source. ReadsFileAt g.O.Opens.holds g.R.File.Read.remaining c.args.self.now.opener names.file.now source) names i
     c.loop-film.sources.items c.remove-source.new.self.items film c.remove-source.result less c.film-item.is c.loop-film.invariant.sources c.remove-source.ensures.value c.remove-source.ensures.items in
-    let writer = zip-first IsWriterFor names i
+    let writer = zip-first (IsWriterFor g.O.Makes.kept) names i
     c.loop-film.writers.items c.remove-writer.new.self.items film c.remove-writer.result less c.film-item.is c.loop-film.invariant.writers c.remove-writer.ensures.value c.remove-writer.ensures.items in
     let pushed : c.push.new.self.items ≡ c.loop-film.devices.items ++ device ∷ [] = search rules in
     record {
       sources = source.1;
       writers = writer.1;
-      devices = rw pushed (zip-next (AreDevicesOf g.O.Opens.holds g.R.File.Read.remaining c.args.self.now.opener c.args.self.now.asked.now.tuning) names i c.loop-film.devices.items film device less c.film-item.is
+      devices = rw pushed (zip-next (AreDevicesOf g.O.Opens.holds g.R.File.Read.remaining g.O.Makes.kept c.args.self.now.opener c.args.self.now.asked.now.tuning) names i c.loop-film.devices.items film device less c.film-item.is
           c.loop-film.invariant.devices (record {
             film = reads-film g.O.Opens.holds g.R.File.Read.remaining c.args.self.now.opener film.file.now c.remove-source.result c.new-limited.result source.0
                 (ap (unread g.R.File.Read.remaining) c.new-limited.ensures ∙ c.in_ok-reader.ensures);
