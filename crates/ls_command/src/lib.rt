@@ -13,11 +13,11 @@
 //! }
 //! ```
 //!
-//! The words are parsed by `clap`, which isn't seen outside: `commands` gives it the commands and options, and
-//! `texts` holds their help. `limits` has the limits on numbers; `frames`, `cut` and `preset` read the values of `--frames`,
-//! `--pieces` and `--preset` (`specs/Values.antt`); `faults` makes the usage faults that `clap` doesn't find. The contracts
-//! say which request the matched words make (`specs/View/Matched.antt`). The tests of the whole program show which words are
-//! accepted, and how others are answered.
+//! The words are parsed by `clap`, which isn't seen outside: `commands` gives it the commands and options, and `texts`
+//! holds their help. `limits` has the limits on numbers; `frames`, `cut` and `preset` read the values of `--frames`,
+//! `--pieces` and `--preset` (`specs/Values.antt`); `faults` makes the usage faults that `clap` doesn't find. The
+//! contracts say which request the matched words make (`specs/View/Matched.antt`). The tests of the whole program show
+//! which words are accepted, and how others are answered.
 #![tactic(auto)]
 
 mod commands;
@@ -567,8 +567,8 @@ fn verify_request<'a>(alloc: Global, words: &ArgMatches<'a>) -> Result<Option<Re
     }
 }
 
-/// The request of `verify` for these frames of a film and the recordings that are named, or the message that says what is
-/// wrong.
+/// The request of `verify` for these frames of a film and the recordings that are named, or the message that says what
+/// is wrong.
 fn read_verify_part<'a>(
     words: &ArgMatches<'a>,
     film: &'a str,

@@ -25,8 +25,8 @@ pub struct Held<F> {
     renamed: Option<String>,
     /// The file that was made: a clone of the handle that is written to.
     made: Option<F>,
-    /// The folder in which it was made, if that can be synced. It is open from then on: later there may be no descriptor
-    /// left, or the folder may have another name.
+    /// The folder in which it was made, if that can be synced. It is open from then on: later there may be no
+    /// descriptor left, or the folder may have another name.
     folder: Option<F>,
 }
 

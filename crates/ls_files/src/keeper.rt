@@ -209,8 +209,8 @@ impl<O: Makes + Copy + Drop> Keeper<O> {
     /// Makes the file of the recording, and that of its index and that of its times if paths are given for them.
     ///
     /// Existing files are renamed first: to the first free name of `path`.1, `path`.2, .., and an index to
-    /// `path`.1.index and times to `path`.1.times with it. A pipe or a device is written to as it is. If a file can't be
-    /// made, earlier files get their names back.
+    /// `path`.1.index and times to `path`.1.times with it. A pipe or a device is written to as it is. If a file can't
+    /// be made, earlier files get their names back.
     pub fn make<'a>(
         &mut self,
         alloc: Global,
@@ -426,7 +426,8 @@ impl<O: Makes + Copy + Drop> Keeper<O> {
     }
 
     /// Removes earlier files, if they are to be replaced. To be called once the recording has a codestream and is on
-    /// the disk. Pieces are removed only with the earlier recording that they belong to: without one they may be another's.
+    /// the disk. Pieces are removed only with the earlier recording that they belong to: without one they may be
+    /// another's.
     pub fn replace(&mut self) {
         if self.replaces {
             self.replaces = false;
@@ -442,8 +443,8 @@ impl<O: Makes + Copy + Drop> Keeper<O> {
         }
     }
 
-    /// If nothing was recorded, removes the new files and gives earlier ones their names back; those beside the recording
-    /// only with it.
+    /// If nothing was recorded, removes the new files and gives earlier ones their names back; those beside the
+    /// recording only with it.
     pub fn give_back(&mut self) {
         if self.recording.has_bytes() {
             return;

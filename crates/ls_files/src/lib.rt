@@ -19,15 +19,14 @@
 //! }
 //! ```
 //!
-//! In reading order: `identity` (identifies files), `stop` (how the program is asked to stop), `opener` (opens and makes
-//! files, in any thread), `source` (a file that is read, whose first bytes `front` keeps), `patient` (writes that are
-//! tried again), `target` (a file that is written), `place` (the place of a file that is to be made, and what is there
-//! already), `held` (a file that is made, from the lock of the earlier one to the last sync), `row` (the names of a
-//! recording's pieces, and those of an earlier recording), `keeper` (a recording's file and those beside it, or those of a
-//! piece of it, together), `folders` (locks the folders in which files are made), `likeness` (guesses
-//! formats). The known bytes of a source or a target are those of its file, once
-//! that is open (`specs/View/Opened.antt`). No contract says more of files: the tests of the whole program show how these
-//! calls work.
+//! In reading order: `identity` (identifies files), `stop` (how the program is asked to stop), `opener` (opens and
+//! makes files, in any thread), `source` (a file that is read, whose first bytes `front` keeps), `patient` (writes that
+//! are tried again), `target` (a file that is written), `place` (the place of a file that is to be made, and what is
+//! there already), `held` (a file that is made, from the lock of the earlier one to the last sync), `row` (the names of
+//! a recording's pieces, and those of an earlier recording), `keeper` (a recording's file and those beside it, or those
+//! of a piece of it, together), `folders` (locks the folders in which files are made), `likeness` (guesses formats).
+//! The known bytes of a source or a target are those of its file, once that is open (`specs/View/Opened.antt`). No
+//! contract says more of files: the tests of the whole program show how these calls work.
 #![tactic(auto)]
 
 pub mod folders;

@@ -63,8 +63,8 @@ pub trait Makes: Opens {
     fn none_finished(&self, alloc: Global) -> Self::Finished
         ensures { kept result ≡ [] };
 
-    /// Closes a file that is finished, and goes on with the next, which is new. The bytes known of the finished files and
-    /// of the file are the same before and afterwards. If memory runs out, it goes on with the file.
+    /// Closes a file that is finished, and goes on with the next, which is new. The bytes known of the finished files
+    /// and of the file are the same before and afterwards. If memory runs out, it goes on with the file.
     fn succeed(
         &self,
         finished: &mut Self::Finished,

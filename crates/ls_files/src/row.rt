@@ -14,8 +14,8 @@ const DIGITS: usize = 5;
 /// The endings of the files of a piece: its own, its index's and its times'.
 const ENDINGS: [&str; 3] = ["", INDEX, TIMES];
 
-/// The path of the piece of this number, from 1, of the recording at a path: FILE.00001.jls of FILE.jls. The recording's
-/// own file is the piece of number 0.
+/// The path of the piece of this number, from 1, of the recording at a path: FILE.00001.jls of FILE.jls. The
+/// recording's own file is the piece of number 0.
 pub fn piece_path(alloc: Global, recording: &str, number: u32) -> Result<String, AllocError> {
     if number == 0 {
         return recording.to_string(alloc);
@@ -24,7 +24,8 @@ pub fn piece_path(alloc: Global, recording: &str, number: u32) -> Result<String,
     format!(in alloc; "{stem}.{number:05}.jls")
 }
 
-/// Whether a file of this name could be a piece of the recording of this name in the same folder, or its index or times.
+/// Whether a file of this name could be a piece of the recording of this name in the same folder, or its index or
+/// times.
 pub fn is_piece_name(name: &str, recording: &str) -> bool {
     let name = name
         .strip_suffix(INDEX)
@@ -77,8 +78,8 @@ impl Row {
         self.count > 0 && self.number.is_none()
     }
 
-    /// Renames them by this number, if all names by it are free; whether that worked. If it didn't, all have their names
-    /// as before.
+    /// Renames them by this number, if all names by it are free; whether that worked. If it didn't, all have their
+    /// names as before.
     pub fn rename<O: Makes>(&mut self, opener: &O, number: u32) -> io::Result<bool> {
         if !self.are_free(opener, number)? {
             return Ok(false);

@@ -55,9 +55,9 @@ impl<'a, O: Opens> Target<'a, O> {
         self.written
     }
 
-    /// Closes the file, which is finished, and goes on with the next, which is new; a pipe that isn't open isn't opened. The
-    /// number of bytes goes on. The bytes known of the finished files and of the file are the same before and afterwards.
-    /// If memory runs out, it goes on with the file.
+    /// Closes the file, which is finished, and goes on with the next, which is new; a pipe that isn't open isn't
+    /// opened. The number of bytes goes on. The bytes known of the finished files and of the file are the same before
+    /// and afterwards. If memory runs out, it goes on with the file.
     pub fn succeed(&mut self, finished: &mut O::Finished, next: O::File) -> Result<(), AllocError>
     where
         O: Makes,

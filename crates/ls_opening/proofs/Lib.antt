@@ -1,3 +1,2 @@
 pub mod DeviceLemmas
-pub mod PieceLemmas
 pub mod ZipLemmas

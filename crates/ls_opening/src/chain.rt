@@ -50,8 +50,8 @@ impl<O: Makes + Copy + Drop> Chain<O> {
         self.begun.load(Ordering::SeqCst)
     }
 
-    /// Makes room for one more piece. If as many wait already as may, the oldest of them, which is finished, is brought onto
-    /// the disk here, which waits for the disk.
+    /// Makes room for one more piece. If as many wait already as may, the oldest of them, which is finished, is brought
+    /// onto the disk here, which waits for the disk.
     pub fn make_room(&self) {
         if self.is_full() {
             if let Some(keeper) = self.take() {

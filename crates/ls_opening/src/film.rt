@@ -100,8 +100,8 @@ pub struct Synced {
 }
 
 impl<'a, O: Makes + Copy + Drop> Film<'a, O> {
-    /// Locks existing files at the place of its recording, and at those of its index and its times if they are given. So many
-    /// pieces of an earlier recording are renamed with that.
+    /// Locks existing files at the place of its recording, and at those of its index and its times if they are given.
+    /// So many pieces of an earlier recording are renamed with that.
     pub fn claim(
         alloc: Global,
         opener: O,
@@ -200,8 +200,8 @@ impl<'a, O: Makes + Copy + Drop> Film<'a, O> {
         self.cutting
     }
 
-    /// Removes earlier files that are to be replaced, once the recording has a codestream and is synced. Returns whether
-    /// it can't be synced, the first time that this is found.
+    /// Removes earlier files that are to be replaced, once the recording has a codestream and is synced. Returns
+    /// whether it can't be synced, the first time that this is found.
     pub fn replace(&mut self, written: u64) -> bool {
         if written == 0 || self.unsynced.first.is_some() || !self.keeper.replaces() {
             return false;
@@ -225,7 +225,8 @@ impl<'a, O: Makes + Copy + Drop> Film<'a, O> {
         self.sync_all()
     }
 
-    /// Brings the pieces that are finished onto the disk, and closes them. Returns whether one failed for the first time.
+    /// Brings the pieces that are finished onto the disk, and closes them. Returns whether one failed for the first
+    /// time.
     pub fn sync_finished(&mut self) -> bool {
         let Some(cutting) = self.cutting else {
             return false;
@@ -246,8 +247,8 @@ impl<'a, O: Makes + Copy + Drop> Film<'a, O> {
         is_news | self.note_chain(cutting.chain)
     }
 
-    /// Notes why finished pieces that the writing thread has brought onto the disk aren't there. Returns whether one failed
-    /// for the first time.
+    /// Notes why finished pieces that the writing thread has brought onto the disk aren't there. Returns whether one
+    /// failed for the first time.
     fn note_chain(&mut self, chain: &Chain<O>) -> bool {
         let recording = self.unsynced.note_first(chain.unsynced(None));
         let index = self
@@ -259,7 +260,8 @@ impl<'a, O: Makes + Copy + Drop> Film<'a, O> {
         recording | index | times
     }
 
-    /// Syncs the files that are written, those beside the recording first. Returns whether one failed for the first time.
+    /// Syncs the files that are written, those beside the recording first. Returns whether one failed for the first
+    /// time.
     fn sync_all(&mut self) -> bool {
         let index = self.sync_beside(Beside::Index);
         let times = self.sync_beside(Beside::Times);
@@ -308,8 +310,8 @@ impl<'a, O: Makes + Copy + Drop> Film<'a, O> {
         self.keeper.renamed()
     }
 
-    /// If nothing was recorded, removes the files that were made, and gives earlier ones their names back; and likewise those
-    /// of the last piece, if nothing was recorded in it.
+    /// If nothing was recorded, removes the files that were made, and gives earlier ones their names back; and likewise
+    /// those of the last piece, if nothing was recorded in it.
     pub fn give_back(&mut self) {
         if let Some(later) = &mut self.later {
             later.give_back();

@@ -2,7 +2,7 @@
 ghost use Rattle.std.specs.Prelude.{◌≡◌};
 
 use crate::names::Names;
-use ls_files::{INDEX, Identity, Place, Spot, TIMES, piece_path};
+use ls_files::{Beside, INDEX, Identity, Place, Spot, TIMES, piece_path};
 use std::alloc::AllocError;
 use std::rt::Files;
 
@@ -41,8 +41,8 @@ impl<'a> Found<'a> {
 }
 
 /// The first film whose recording, index or times would be the same file as another's or as one another, or that is
-/// another's recording, an index or times, or into which one of these would be written, or that or whose recording could be
-/// a piece of another's.
+/// another's recording, an index or times, or into which one of these would be written, or that or whose recording
+/// could be a piece of another's.
 pub fn written_twice<'a>(films: &[Found<'a>], replace: bool) -> Option<&'a str> {
     for (place, film) in films.iter().enumerate() {
         for (other, one) in films.iter().enumerate() {
@@ -58,8 +58,8 @@ pub fn written_twice<'a>(films: &[Found<'a>], replace: bool) -> Option<&'a str> 
     None
 }
 
-/// The recording of the first film that is to be cut into pieces, and can't be: it is written into a pipe, a device or an
-/// open file.
+/// The recording of the first film that is to be cut into pieces, and can't be: it is written into a pipe, a device or
+/// an open file.
 pub fn uncut<'a>(films: &[Found<'a>]) -> Option<&'a str> {
     for film in films {
         if film.names.is_cut && film.place.is_written_into() {
@@ -92,8 +92,8 @@ fn is_overwritten(film: &Found<'_>, other: &Found<'_>, replace: bool) -> bool {
     }
 }
 
-/// Whether two films have the same recording or the same file beside one, or the first is where the other's recording is
-/// to be made.
+/// Whether two films have the same recording or the same file beside one, or the first is where the other's recording
+/// is to be made.
 fn are_one(film: &Found<'_>, other: &Found<'_>) -> bool {
     film.place.is_one_with(&other.place)
         || (film.spot.is_some() && film.spot == other.place.spot())
@@ -129,29 +129,21 @@ pub fn is_met(film: &Found<'_>, place: &Place<'_>, replace: bool) -> bool {
             .is_some_and(|identity| place.would_write_into(identity, replace))
 }
 
-/// The place of a film's index, if it is claimed with the recording: if an index is made; and if none is, so that an
-/// existing one is renamed with the recording, unless the recording is written into a pipe, a device or an open file, or
-/// the index is one of the films or the report.
-pub fn index_to_claim<'f, 'a>(
+/// The place of a film's index or times, if it is claimed with the recording: if such a file is made; and if none is,
+/// so that an existing one is renamed with the recording, unless the recording is written into a pipe, a device or an
+/// open file, or the file is one of the films or the report.
+pub fn beside_to_claim<'f, 'a>(
     film: &'f Found<'a>,
+    beside: Beside,
     films: &[Found<'_>],
     report: Option<&Place<'_>>,
 ) -> Option<&'f Place<'a>> {
-    if film.names.is_indexed || is_moved(film, &film.index, films, report) {
-        Some(&film.index)
-    } else {
-        None
-    }
-}
-
-/// The place of a film's times likewise.
-pub fn times_to_claim<'f, 'a>(
-    film: &'f Found<'a>,
-    films: &[Found<'_>],
-    report: Option<&Place<'_>>,
-) -> Option<&'f Place<'a>> {
-    if film.names.is_timed || is_moved(film, &film.times, films, report) {
-        Some(&film.times)
+    let (place, is_made) = match beside {
+        Beside::Index => (&film.index, film.names.is_indexed),
+        Beside::Times => (&film.times, film.names.is_timed),
+    };
+    if is_made || is_moved(film, place, films, report) {
+        Some(place)
     } else {
         None
     }
@@ -179,9 +171,9 @@ fn is_at(film: &Found<'_>, place: &Place<'_>) -> bool {
         || (film.identity.is_some() && film.identity == place.identity())
 }
 
-/// The number of pieces of an earlier recording that are renamed with it: those with numbers from 1 on, as far as they are
-/// there and neither they nor files beside them are one of the films, another film's recording or the report; none if the
-/// recording is written into a pipe, a device or an open file.
+/// The number of pieces of an earlier recording that are renamed with it: those with numbers from 1 on, as far as they
+/// are there and neither they nor files beside them are one of the films, another film's recording or the report; none
+/// if the recording is written into a pipe, a device or an open file.
 pub fn pieces_to_claim<R: Files + AllocGlobal>(
     rt: &R,
     film: &Found<'_>,

@@ -34,11 +34,11 @@
 //! ```
 //!
 //! In reading order: `names` (the names of films and of the files made for them), `found` (where a film and the places
-//! of its files are, and which are duplicates), `limited` (has a film be read no further than its first
-//! frames, and notes when their bytes came and when a piece is due), `chain` (hands on pieces that were begun), `pieces`
-//! (writes a recording, or its pieces), `opening` (opens the films and makes the files), `film` (a film's
-//! files, from their opening until its recording has ended), `refusal` (why no film is recorded). No contract says
-//! what is said; the tests of the whole program show it.
+//! of its files are, and which are duplicates), `limited` (has a film be read no further than its first frames, and
+//! notes when their bytes came and when a piece is due), `chain` (hands on pieces that were begun), `pieces` (writes a
+//! recording, or its pieces), `opening` (opens the films and makes the files), `film` (a film's files, from their
+//! opening until its recording has ended), `refusal` (why no film is recorded). No contract says what is said; the
+//! tests of the whole program show it.
 #![tactic(auto)]
 
 mod chain;

@@ -1,5 +1,5 @@
-//! Has a film be read no further than its first frames, and notes when the bytes of each came and when the next piece of its
-//! recording is due.
+//! Has a film be read no further than its first frames, and notes when the bytes of each came and when the next piece
+//! of its recording is due.
 ghost use Rattle.std.specs.Prelude.{◌≡◌};
 ghost use Rattle.ls_frame.specs.View.Devices.{risen};
 
@@ -11,8 +11,8 @@ use std::io::Read;
 use std::sync::atomic::{AtomicBool, AtomicU64, Ordering};
 
 /// How far a film is read, and when its bytes came, as its reader and the gate of its recording tell each other in the
-/// thread that reads the film; and when the next piece of its recording is due, as the gate tells its writer in the thread
-/// that writes.
+/// thread that reads the film; and when the next piece of its recording is due, as the gate tells its writer in the
+/// thread that writes.
 #[derive(Drop)]
 pub struct Course {
     /// The number of frames after which the film is read no further, if there is one, and whether so many were read.
@@ -28,8 +28,8 @@ pub struct Course {
     came: AtomicU64,
     /// Where its recording is cut into pieces, if it is.
     cut: Option<Cut>,
-    /// The number of frames in the piece that is written, and the age of the recording when the first of these was written,
-    /// in nanoseconds.
+    /// The number of frames in the piece that is written, and the age of the recording when the first of these was
+    /// written, in nanoseconds.
     frames: AtomicU64,
     began: AtomicU64,
     /// Whether the next piece is due; and whether one was begun since that was last asked.
@@ -85,8 +85,8 @@ impl Course {
         }
     }
 
-    /// When the first byte and the last came of the frame that was read last, in nanoseconds since 1970-01-01T00:00:00Z;
-    /// 0 if no times are wanted or the clock couldn't be read.
+    /// When the first byte and the last came of the frame that was read last, in nanoseconds since
+    /// 1970-01-01T00:00:00Z; 0 if no times are wanted or the clock couldn't be read.
     pub fn times(&self) -> (u64, u64) {
         (
             self.first.load(Ordering::SeqCst),
@@ -157,8 +157,8 @@ impl Course {
     }
 }
 
-/// A reader whose reads fail once so many frames were read as its course has, if it has one; it notes there when the first
-/// byte of each frame came.
+/// A reader whose reads fail once so many frames were read as its course has, if it has one; it notes there when the
+/// first byte of each frame came.
 #[derive(Drop)]
 pub struct Limited<'a, R> {
     reader: R,

@@ -28,8 +28,8 @@ pub struct Names<'a> {
     pub notice: String,
 }
 
-/// The names of the films and of the files made for them, for a terminal with progress lines of `columns` characters, or
-/// with a line for each film. Refused if one is a duplicate.
+/// The names of the films and of the files made for them, for a terminal with progress lines of `columns` characters,
+/// or with a line for each film. Refused if one is a duplicate.
 pub fn names_once<'a>(
     alloc: Global,
     asked: &RecordRequest<'a>,

@@ -10,8 +10,8 @@ ghost use Rattle.ls_opening.specs.View.Devices.{AreDevicesOf, IsWriterFor, kept_
 use crate::chain::Chain;
 use crate::film::Film;
 use crate::found::{
-    Found, could_be_piece, has_beside_at, index_to_claim, is_met, pieces_to_claim, times_to_claim,
-    uncut, written_twice,
+    Found, beside_to_claim, could_be_piece, has_beside_at, is_met, pieces_to_claim, uncut,
+    written_twice,
 };
 use crate::limited::{Course, Limited};
 use crate::names::Names;
@@ -20,7 +20,7 @@ use crate::refusal::Refusal;
 use ls_archive::{Follower, Indexing};
 use ls_command::RecordRequest;
 use ls_console::{Console, MadeFile, Reader, Shown, buffered, make_file};
-use ls_files::{Folders, Keeper, Makes, Opens, Place, Source, Target, Targets};
+use ls_files::{Beside, Folders, Keeper, Makes, Opens, Place, Source, Target, Targets};
 use ls_frame::{Counted, Outlet, Tuning};
 use std::alloc::{AllocError, Global};
 use std::rt::Files;
@@ -29,8 +29,8 @@ use std::sync::atomic::AtomicU64;
 use std::thread::Parker;
 use std::time::Duration;
 
-/// The writer of a film's codestreams: to the file of its recording, or to pieces of it, and to the index of each, if there is
-/// one.
+/// The writer of a film's codestreams: to the file of its recording, or to pieces of it, and to the index of each, if
+/// there is one.
 pub type Writer<'a, O> = Counted<Pieces<'a, O>>;
 
 /// What a film's lane is given: its reader, its writer and its coding parameters.
@@ -91,8 +91,8 @@ where
     })
 }
 
-/// The opening of films: the runtime and its opener, what is asked for, the films' names, and their courses and chains, if
-/// they have any.
+/// The opening of films: the runtime and its opener, what is asked for, the films' names, and their courses and chains,
+/// if they have any.
 #[derive(Drop)]
 struct Opening<'o, 'a, R, O: Makes> {
     rt: &'o R,
@@ -258,8 +258,8 @@ where
         let alloc = self.rt.alloc();
         let mut films = Vec::new(alloc);
         for film in found {
-            let index = index_to_claim(film, found, report);
-            let times = times_to_claim(film, found, report);
+            let index = beside_to_claim(film, Beside::Index, found, report);
+            let times = beside_to_claim(film, Beside::Times, found, report);
             let pieces = pieces_to_claim(self.rt, film, found, report)?;
             let cutting = self.cutting(films.len());
             films.push(Film::claim(

@@ -89,8 +89,8 @@ pub struct BesideParts<'a, O: Opens> {
     pub piece: u32,
 }
 
-/// A recording, which is written to one file, or to pieces, one after the other. The next one is begun, if it is due, when
-/// bytes of another frame come.
+/// A recording, which is written to one file, or to pieces, one after the other. The next one is begun, if it is due,
+/// when bytes of another frame come.
 #[derive(Drop)]
 pub struct Pieces<'a, O: Makes> {
     piece: PieceWriter<'a, O>,
@@ -199,8 +199,8 @@ impl<'a, O: Makes + Copy + Drop> Pieces<'a, O> {
         }
     }
 
-    /// Closes the files of the piece of this number, which is finished, and goes on with those of the next. If memory runs
-    /// out, it goes on with the piece.
+    /// Closes the files of the piece of this number, which is finished, and goes on with those of the next. If memory
+    /// runs out, it goes on with the piece.
     fn go_on(
         &mut self,
         opener: O,

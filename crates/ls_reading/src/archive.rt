@@ -112,8 +112,8 @@ where
     finish_lines(status, lines, console)
 }
 
-/// Writes the index of a recording likewise, with an object of JSON for each line. What it writes is shown by tests; with
-/// the status `DONE` the recording was read to its end.
+/// Writes the index of a recording likewise, with an object of JSON for each line. What it writes is shown by tests;
+/// with the status `DONE` the recording was read to its end.
 pub fn index_json<R, O, W, E>(program: Program<'_, R, O, W, E>, file: &str, sums: bool) -> u8
 where
     R: AllocGlobal,
@@ -216,8 +216,8 @@ pub struct Checks {
 }
 
 /// Looks for damage in a recording, by its index if one is named, and then with this number of workers that decode.
-/// Writes a line for each finding, through a buffer; with `json` an object of JSON. With `strict` also looks, if nothing is
-/// damaged, whether each codestream is strict.
+/// Writes a line for each finding, through a buffer; with `json` an object of JSON. With `strict` also looks, if
+/// nothing is damaged, whether each codestream is strict.
 pub fn check_recording<R, O, W, E>(
     program: Program<'_, R, O, W, E>,
     file: &str,

@@ -3,8 +3,8 @@
 //!
 //! What it hands on: a function for each command, or more: `show`, `show_whole` and, for several files, `show_into` are
 //! `play`; `list_json` and `index_json` write objects of JSON; `index_beside`, `check_each` and `verify_pairs` are for
-//! several files, too. Each opens its files, runs an engine of the crates below over them, says on the console what stopped
-//! it, and returns the status that the program exits with.
+//! several files, too. Each opens its files, runs an engine of the crates below over them, says on the console what
+//! stopped it, and returns the status that the program exits with.
 //!
 //! ```
 //! use ls_console::{Host, Program};
@@ -28,12 +28,13 @@
 //! In reading order: `cause` (the causes of faults), `asked` (what a command that writes lines is asked for), `films`
 //! (`list` and `code`), `indexing` (the file of an index that is written together with its recording), `playing`
 //! (`play`), `listed` (a part that is found by an index), `recorded` (the recorded numbers of gaps, and lost frames),
-//! `report` (the lines of a check), `archive` (`index` and `check`), `comparing` (`verify`), `part` (`check` and `verify`
-//! of a part), `strict` (whether codestreams are strict), `each` (`check` and `verify` of several files), `draft` (a file
-//! that takes its name once it is whole), `beside` (`index` of several files), `into` (`play` of several files),
-//! `replaying` (`replay`). The contracts say which status each returns, and what each has read and written if it is 0
-//! (`specs/View/Commands.antt`, `specs/View/Each.antt`, `specs/View/Replays.antt`); what each engine does over any reader
-//! and writer is said at the function that calls it. What is said on standard error, the tests of the whole program show.
+//! `report` (the lines of a check), `archive` (`index` and `check`), `comparing` (`verify`), `part` (`check` and
+//! `verify` of a part), `strict` (whether codestreams are strict), `each` (`check` and `verify` of several files),
+//! `draft` (a file that takes its name once it is whole), `beside` (`index` of several files), `into` (`play` of
+//! several files), `replaying` (`replay`). The contracts say which status each returns, and what each has read and
+//! written if it is 0 (`specs/View/Commands.antt`, `specs/View/Each.antt`, `specs/View/Replays.antt`); what each engine
+//! does over any reader and writer is said at the function that calls it. What is said on standard error, the tests of
+//! the whole program show.
 #![tactic(auto)]
 
 mod archive;

@@ -26,9 +26,9 @@ use std::io::Write;
 use std::rt::Files;
 use std::thread::Threads;
 
-/// Looks for damage in a part of a recording by its index, with this number of workers that decode: reads only the lines
-/// and the codestreams of the part, but for a few lines to find the first. Writes a line for each finding, or an object
-/// of JSON, through a buffer.
+/// Looks for damage in a part of a recording by its index, with this number of workers that decode: reads only the
+/// lines and the codestreams of the part, but for a few lines to find the first. Writes a line for each finding, or an
+/// object of JSON, through a buffer.
 pub fn check_part<R, O, W, E>(
     program: Program<'_, R, O, W, E>,
     file: &str,
@@ -70,8 +70,8 @@ where
     finish_report(status, lines, console)
 }
 
-/// Looks for damage in a part of a recording likewise, over any output, whose failures aren't looked at, and which isn't
-/// flushed.
+/// Looks for damage in a part of a recording likewise, over any output, whose failures aren't looked at, and which
+/// isn't flushed.
 fn check_part_lined<R, O, L, E>(
     program: Program<'_, R, O, L, E>,
     file: &str,
@@ -137,8 +137,9 @@ where
     conclude(file, Err(fault), &recording, None, console)
 }
 
-/// The offset below which only the bytes of damaged codestreams are searched: the end of a part's bytes, if the index ends
-/// there too; else there is no other, since what the index lists after the part may be the same and is at its own place.
+/// The offset below which only the bytes of damaged codestreams are searched: the end of a part's bytes, if the index
+/// ends there too; else there is no other, since what the index lists after the part may be the same and is at its own
+/// place.
 fn search_end(part: Part, end: u64) -> u64 {
     if part.last.is_some() { u64::MAX } else { end }
 }

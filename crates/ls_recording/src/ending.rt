@@ -37,8 +37,8 @@ pub struct Ends<'a, O: Makes> {
     pub are_whole: bool,
 }
 
-/// The files of a film that has ended: the finished pieces of its recording, and those that are open, of its recording or of
-/// the last piece.
+/// The files of a film that has ended: the finished pieces of its recording, and those that are open, of its recording
+/// or of the last piece.
 #[derive(Drop)]
 pub struct EndedFiles<'a, O: Makes> {
     pub finished: O::Finished,
@@ -219,8 +219,8 @@ fn is_told(told: &[bool], film: usize) -> bool {
     }
 }
 
-/// Settles a film's files, if they aren't settled yet, and says why it stopped, if it did and that wasn't said. Notes its
-/// number of frames only if its recording is complete.
+/// Settles a film's files, if they aren't settled yet, and says why it stopped, if it did and that wasn't said. Notes
+/// its number of frames only if its recording is complete.
 fn say_end<'a, O, E>(
     alloc: Global,
     film: &mut Film<'_, O>,
@@ -294,8 +294,8 @@ where
     }
 }
 
-/// Says why the files beside a recording, or beside pieces of it, aren't whole, if they aren't, and returns those that it or
-/// its last piece has: its index, and the times of its frames.
+/// Says why the files beside a recording, or beside pieces of it, aren't whole, if they aren't, and returns those that
+/// it or its last piece has: its index, and the times of its frames.
 fn end_beside<'a, O, E>(
     alloc: Global,
     film: &mut Film<'_, O>,
@@ -377,8 +377,8 @@ where
     }
 }
 
-/// Says why the index of a film isn't whole, if it isn't, and returns its file: of the piece of this number, if the recording
-/// is cut into pieces.
+/// Says why the index of a film isn't whole, if it isn't, and returns its file: of the piece of this number, if the
+/// recording is cut into pieces.
 fn end_index<'a, O, E>(
     alloc: Global,
     film: &mut Film<'_, O>,

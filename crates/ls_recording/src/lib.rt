@@ -34,8 +34,8 @@
 //!
 //! In reading order: `recording` (the command), `watching` (counts and times of films while they are recorded, their
 //! files settled as each ends, and progress), `ending` (says how each film ended, and writes the report). What holds of
-//! the films and their files if the status is 0, `specs/View/Films.antt` says; the texts, the tests of the whole program
-//! show.
+//! the films and their files if the status is 0, `specs/View/Films.antt` says; the texts, the tests of the whole
+//! program show.
 #![tactic(auto)]
 
 mod ending;

@@ -48,9 +48,9 @@ struct Finished<'a, O: Makes> {
 }
 
 /// Records the films that are asked for, says how each ended, and returns the status. On a terminal progress is always
-/// shown. With `DONE` each film was recorded from its own file to its own recording, or to pieces that are the recording
-/// one after the other, with the tuning asked for: to its end, as far as it was read when the program was asked to stop, or as
-/// many frames of it as are asked for.
+/// shown. With `DONE` each film was recorded from its own file to its own recording, or to pieces that are the
+/// recording one after the other, with the tuning asked for: to its end, as far as it was read when the program was
+/// asked to stop, or as many frames of it as are asked for.
 pub fn record_films<R, O, W, E>(program: Program<'_, R, O, W, E>, asked: RecordRequest<'_>) -> u8
 where
     R: Host + Clock + Threads + Wait + Sync,
@@ -114,8 +114,8 @@ where
 }
 
 /// Records films whose files are open, says how each ended, writes the report, and returns the status. With `DONE` each
-/// film was recorded to its end, as far as it was read when the program was asked to stop, or as many frames of it as are
-/// asked for.
+/// film was recorded to its end, as far as it was read when the program was asked to stop, or as many frames of it as
+/// are asked for.
 fn record_opened<'a, R, O, W, E>(
     program: Program<'_, R, O, W, E>,
     asked: &'a RecordRequest<'a>,
@@ -320,8 +320,9 @@ where
     recorded
 }
 
-/// Says how each film ended. The status is `DONE` only if each was recorded to its end, up to a stop that the program was
-/// asked for or to the last of as many frames as were asked for, its files are on the disk, and what was to be said of it on standard output was written.
+/// Says how each film ended. The status is `DONE` only if each was recorded to its end, up to a stop that the program
+/// was asked for or to the last of as many frames as were asked for, its files are on the disk, and what was to be said
+/// of it on standard output was written.
 fn finish_films<'a, R, O, W, E>(
     program: Program<'_, R, O, W, E>,
     watch: &Watch<'_, R>,

@@ -1,5 +1,5 @@
-//! Watches a recording while it goes on: a gate that counts and takes times, for the thread that keeps the films' files,
-//! for the one that keeps the time and says progress, and for a report.
+//! Watches a recording while it goes on: a gate that counts and takes times, for the thread that keeps the films'
+//! files, for the one that keeps the time and says progress, and for a report.
 mod distances;
 mod film;
 pub mod keeping;
@@ -36,8 +36,8 @@ pub struct Watch<'r, R> {
     over: AtomicBool,
     lasted: AtomicU64,
     /// These wake the thread that says progress and the one that keeps the films' files when a film's first codestream
-    /// is written, a film stops or ends, or the recording ends; and the first also when the second has noted something, the
-    /// second also when a piece of a recording is finished.
+    /// is written, a film stops or ends, or the recording ends; and the first also when the second has noted something,
+    /// the second also when a piece of a recording is finished.
     telling: Parker,
     keeping: Parker,
 }
@@ -175,8 +175,8 @@ impl<'r, R: Clock> Watch<'r, R> {
         self.telling.park_timeout(self.clock, longest);
     }
 
-    /// Waits `longest` at most; less if a film's first codestream is written, a piece of a recording is finished, a film
-    /// stops or ends, or the recording ends. For the thread that keeps the films' files.
+    /// Waits `longest` at most; less if a film's first codestream is written, a piece of a recording is finished, a
+    /// film stops or ends, or the recording ends. For the thread that keeps the films' files.
     pub fn wait_for_files(&self, longest: Duration)
     where
         R: Wait,

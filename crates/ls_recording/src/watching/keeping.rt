@@ -11,8 +11,8 @@ use std::sync::Wait;
 use std::time::Clock;
 
 /// Until the recording ends, settles the files of each film that ends, removes earlier files that are replaced, and
-/// brings pieces onto the disk once they are finished, and what is written as often as it is asked for. Notes on the watch which films are on the disk, and
-/// which can't be brought there.
+/// brings pieces onto the disk once they are finished, and what is written as often as it is asked for. Notes on the
+/// watch which films are on the disk, and which can't be brought there.
 pub fn keep_files<R, O>(
     rt: &R,
     opener: O,
@@ -36,8 +36,8 @@ where
     }
 }
 
-/// Settles the files of each film that has ended since; of the others, brings finished pieces onto the disk, and removes
-/// earlier files that the recordings have replaced.
+/// Settles the files of each film that has ended since; of the others, brings finished pieces onto the disk, and
+/// removes earlier files that the recordings have replaced.
 fn settle_ended<R, O>(opener: &O, watch: &Watch<'_, R>, films: &mut [Film<'_, O>])
 where
     R: Clock,

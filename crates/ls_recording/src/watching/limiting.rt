@@ -1,5 +1,5 @@
-//! Ends films after as many frames of each as were asked for, and has the times of their frames written and their recordings
-//! cut into pieces.
+//! Ends films after as many frames of each as were asked for, and has the times of their frames written and their
+//! recordings cut into pieces.
 use super::Watch;
 use super::times::FilmTimes;
 use ls_files::Makes;
@@ -8,8 +8,8 @@ use ls_recorder::{Gate, Moment, Notice};
 use std::sync::Wait;
 use std::time::Clock;
 
-/// A gate that notes on the films' courses, if they have any, which frames are read and written; has their times written, if
-/// those are wanted; and passes everything on to a watch.
+/// A gate that notes on the films' courses, if they have any, which frames are read and written; has their times
+/// written, if those are wanted; and passes everything on to a watch.
 #[derive(Drop)]
 pub struct Limiting<'w, 'r, 'c, 't, 'a, R, O: Makes> {
     pub watch: &'w Watch<'r, R>,

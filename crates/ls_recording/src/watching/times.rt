@@ -37,8 +37,8 @@ impl TimesFault {
     }
 }
 
-/// The file of a film's times, or of those of the last piece of its recording, and why no more are written to it, if that is
-/// so.
+/// The file of a film's times, or of those of the last piece of its recording, and why no more are written to it, if
+/// that is so.
 #[derive(Drop)]
 pub struct TimesFile<'a, O: Makes> {
     alloc: Global,
@@ -109,8 +109,8 @@ impl<'a, O: Makes + Copy + Drop> TimesFile<'a, O> {
     }
 }
 
-/// The times of a film's frames that aren't written yet, and the file to which they are written. The thread that reads the
-/// film notes them, and the one that writes its recording writes them.
+/// The times of a film's frames that aren't written yet, and the file to which they are written. The thread that reads
+/// the film notes them, and the one that writes its recording writes them.
 pub type FilmTimes<'a, O> = PendingTimes<TimesFile<'a, O>>;
 
 /// Times that aren't written yet, and the file `F` to which they are written.
@@ -124,8 +124,8 @@ pub struct PendingTimes<F> {
 }
 
 impl<'a, O: Makes + Copy + Drop> PendingTimes<TimesFile<'a, O>> {
-    /// Times to be written to this file at a path, and to those of further pieces of the recording if it is cut into such.
-    /// The opener reads the clock.
+    /// Times to be written to this file at a path, and to those of further pieces of the recording if it is cut into
+    /// such. The opener reads the clock.
     pub fn new(
         alloc: Global,
         opener: O,
