@@ -98,6 +98,8 @@ says(1, b"", "jlsrec: none.jls: can't open\n", *play("0", name="none.jls"))
 os.mkfifo("pipe")
 says(1, b"", "jlsrec: pipe: can't be read twice, as --index asks for\n", *play("0", name="pipe"))
 says(1, b"", "jlsrec: pipe: can't be read twice, as --index asks for\n", *play("0", "pipe"))
+os.mkdir("folder")
+says(1, b"", "jlsrec: folder: read failed\n", *play("0", "folder"))
 
 # ---- one frame of 600,000: soon, and in little memory
 

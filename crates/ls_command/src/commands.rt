@@ -32,7 +32,7 @@ enum Argument {
     Files(&'static str, &'static str),
     /// An option without a value.
     Flag(&'static str, &'static str),
-    /// An option with a value, and the value's name in the help.
+    /// An option with a value that isn't empty, and the value's name in the help.
     Text(&'static str, &'static str, &'static str),
     /// An option whose value is a number: the least and the greatest, and the default.
     Number(&'static str, (i64, i64), &'static str, &'static str),
@@ -208,7 +208,9 @@ fn argument_of<'a>(alloc: Global, argument: Argument) -> Arg<'a> {
         Argument::File(name, help) => file(alloc, name, help),
         Argument::Files(name, help) => file(alloc, name, help).num_args(1..),
         Argument::Flag(name, help) => flag(alloc, name, help),
-        Argument::Text(name, value, help) => option(alloc, name, value, help),
+        Argument::Text(name, value, help) => {
+            option(alloc, name, value, help).value_parser(ValueParser::NonEmptyString)
+        }
         Argument::Number(name, range, usual, help) => {
             number(alloc, name, "N", range, help).default_value(usual)
         }

@@ -447,7 +447,7 @@ fn is_read_anew<R: Files>(rt: &R, file: &str) -> bool {
     }
 }
 
-/// Whether a file, if it can be opened, can be read twice, as an option asks for. If it can't, says so.
+/// Whether a file, if it can be read at all, can be read twice, as an option asks for. If it can't, says so.
 pub fn is_read_twice<R: Files, E: Outlet>(
     rt: &R,
     file: &str,
@@ -455,7 +455,7 @@ pub fn is_read_twice<R: Files, E: Outlet>(
     console: &mut Console<E>,
 ) -> bool {
     let is_once = match fs::metadata(rt, file) {
-        Ok(metadata) => !metadata.is_file(),
+        Ok(metadata) => !(metadata.is_file() || metadata.is_dir()),
         Err(_) => false,
     };
     if is_once {
