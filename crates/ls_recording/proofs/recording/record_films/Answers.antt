@@ -3,8 +3,8 @@ use Rattle.ls_opening.specs.declared.names.Names.{Names}
 use Rattle.ls_recording.specs.View.Films.{AreRecorded}
 use Rattle.ls_recording.proofs.recording.record_films.Goals as goal
 
-pub returns-in-Ok : goal.returns-in-Ok
-returns-in-Ok g c = λ done. record {
+pub returns : goal.returns
+returns g c = λ done. record {
   names = c.in-Ok.names.items;
   named = c.in-Ok.ensures;
   recorded = subst (λ (names : List Names). AreRecorded g.O.Opens.holds g.R.File.Read.remaining g.R.File.Write.contents g.O.Makes.kept c.args.program.opener
