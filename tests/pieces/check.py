@@ -85,7 +85,11 @@ def is_locked(name):
 
 
 def ended(case, process, wanted, frames, stopped=""):
-    said = process.communicate(timeout=60)
+    try:
+        said = process.communicate(timeout=60)
+    except subprocess.TimeoutExpired:
+        process.kill()
+        said = process.communicate()
     count(f"{case}: status and line", (process.returncode, said[0]) == (wanted, f"camera: {frames} frames{stopped}\n"), process.returncode, said)
 
 
@@ -220,6 +224,22 @@ def stopped(sign):
     leave()
 
 
+def kept_open():
+    """With --keep-open what writes may come and go, in the middle of a piece and at a border."""
+    fresh("kept_open")
+    process = record("--pieces", "2", "--keep-open", "--count", "6")
+    frames = [image(number) for number in range(6)]
+    for first, last in (0, 3), (3, 4), (4, 6):
+        with open("camera", "wb", buffering=0) as camera:
+            camera.write(b"".join(frames[first:last]))
+        own = (last - 1) // 2
+        count(f"kept open: frame {last - 1} is in its piece", within(5, lambda: os.path.exists(piece(own)) and
+              read(piece(own)) == code(frames[2 * own:last])), own)
+    ended("kept open", process, 0, 6)
+    count("kept open: the pieces", [read(name) for name in pieces()] == [code(frames[place:place + 2]) for place in (0, 2, 4)])
+    leave()
+
+
 def stopped_at_border():
     """A signal when a piece is full: no further one is made."""
     fresh("stopped_at_border")
@@ -265,6 +285,7 @@ two_programs()
 killed()
 stopped(signal.SIGINT)
 stopped(signal.SIGTERM)
+kept_open()
 stopped_at_border()
 many(1000)
 print(f"{passed} passed, {failed} failed")
