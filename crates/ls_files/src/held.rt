@@ -292,11 +292,8 @@ fn is_never_synced(kind: io::ErrorKind) -> bool {
 
 /// Opens an existing file and locks it, if the file system has locks.
 fn locked<O: Makes>(opener: &O, path: &str, identity: Identity) -> io::Result<O::File> {
-    let file = match opener.open(path) {
+    let file = match open_existing(opener, path) {
         Ok(file) => file,
-        Err(fault) if fault.kind() == io::ErrorKind::PermissionDenied => {
-            opener.open_to_write(path)?
-        }
         // Another program has just renamed it.
         Err(fault) if fault.kind() == io::ErrorKind::NotFound => return Err(busy()),
         Err(fault) => return Err(fault),
@@ -304,6 +301,22 @@ fn locked<O: Makes>(opener: &O, path: &str, identity: Identity) -> io::Result<O:
     if Identity::of(&file.metadata()?) != identity {
         return Err(busy());
     }
+    take_lock(opener, file)
+}
+
+/// Opens an existing file to lock it: to be written to, if it can't be read.
+pub fn open_existing<O: Makes>(opener: &O, path: &str) -> io::Result<O::File> {
+    match opener.open(path) {
+        Ok(file) => Ok(file),
+        Err(fault) if fault.kind() == io::ErrorKind::PermissionDenied => {
+            opener.open_to_write(path)
+        }
+        Err(fault) => Err(fault),
+    }
+}
+
+/// Locks an open file, if the file system has locks. Fails with `WouldBlock` if another program has the lock.
+pub fn take_lock<O: Makes>(opener: &O, file: O::File) -> io::Result<O::File> {
     if opener.try_lock(&file).unwrap_or(true) {
         Ok(file)
     } else {

@@ -133,9 +133,16 @@ impl<O: Makes + Copy + Drop> Keeper<O> {
         }
     }
 
-    /// Has the pieces of an earlier recording be renamed with it, of which there are `count`.
-    pub fn claim_row(&mut self, alloc: Global, path: &str, count: u32) -> Result<(), AllocError> {
-        self.row = Some(Row::new(alloc, path, count)?);
+    /// Has the pieces of an earlier recording be renamed with it, of which there are `count`, and be removed with it if
+    /// they are replaceable and it is to be replaced.
+    pub fn claim_row(
+        &mut self,
+        alloc: Global,
+        path: &str,
+        count: u32,
+        are_replaceable: bool,
+    ) -> Result<(), AllocError> {
+        self.row = Some(Row::new(alloc, path, count, are_replaceable)?);
         Ok(())
     }
 

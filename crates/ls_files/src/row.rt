@@ -1,5 +1,5 @@
 //! The names of a recording's pieces, and the pieces of an earlier recording, which are renamed with it.
-use crate::held::rename_new;
+use crate::held::{open_existing, rename_new, take_lock};
 use crate::keeper::{INDEX, TIMES};
 use crate::opener::Makes;
 use std::alloc::{AllocError, Global};
@@ -52,23 +52,32 @@ fn stem_of(recording: &str) -> &str {
 }
 
 /// The pieces of an earlier recording but the first, which is at the recording's own path: `count` files with numbers
-/// from 1, each perhaps with an index and times beside it. They aren't locked: the lock of the first stands for them.
+/// from 1, each perhaps with an index and times beside it. Each is locked while it is renamed, since it may be a
+/// recording by itself that another program writes: so many can't be open all the time.
 #[derive(Drop)]
 pub struct Row {
     alloc: Global,
     recording: String,
     count: u32,
+    /// Whether they are removed if the recording is to be replaced.
+    is_replaceable: bool,
     /// The number in their new names, once they are renamed.
     number: Option<u32>,
 }
 
 impl Row {
-    /// The pieces of the earlier recording at this path, of which there are `count`.
-    pub fn new(alloc: Global, recording: &str, count: u32) -> Result<Row, AllocError> {
+    /// The pieces of the earlier recording at this path, of which there are `count`, to be removed with it or not.
+    pub fn new(
+        alloc: Global,
+        recording: &str,
+        count: u32,
+        is_replaceable: bool,
+    ) -> Result<Row, AllocError> {
         Ok(Row {
             alloc,
             recording: recording.to_string(alloc)?,
             count,
+            is_replaceable,
             number: None,
         })
     }
@@ -114,8 +123,9 @@ impl Row {
     }
 
     /// Renames the files of a piece by this number, as far as they exist; `false` if something has one of the names by
-    /// now.
+    /// now. Fails with `WouldBlock` if another program has locked the piece.
     fn move_piece<O: Makes>(&self, opener: &O, place: u32, number: u32) -> io::Result<bool> {
+        let _locked = lock_at(opener, &self.own(place, "")?)?;
         for ending in ENDINGS {
             let from = self.own(place, ending)?;
             if is_there(opener, &from)?
@@ -158,8 +168,11 @@ impl Row {
         }
     }
 
-    /// Removes them, under their new names. A failure to remove one is ignored.
+    /// Removes them, under their new names, if they may be removed. A failure to remove one is ignored.
     pub fn remove<O: Makes>(&mut self, opener: &O) {
+        if !self.is_replaceable {
+            return;
+        }
         if let Some(number) = self.number.take() {
             for place in 1..=self.count {
                 for ending in ENDINGS {
@@ -190,6 +203,15 @@ impl Row {
     fn moved(&self, place: u32, number: u32, ending: &str) -> Result<String, AllocError> {
         let piece = piece_path(self.alloc, self.recording.as_str(), place)?;
         format!(in self.alloc; "{piece}.{number}{ending}")
+    }
+}
+
+/// Locks the file at a path, unless nothing is there or only a link that leads nowhere.
+fn lock_at<O: Makes>(opener: &O, path: &str) -> io::Result<Option<O::File>> {
+    match open_existing(opener, path) {
+        Ok(file) => Ok(Some(take_lock(opener, file)?)),
+        Err(fault) if fault.kind() == io::ErrorKind::NotFound => Ok(None),
+        Err(fault) => Err(fault),
     }
 }
 

@@ -118,7 +118,7 @@ impl<'a, O: Makes + Copy + Drop> Film<'a, O> {
         match Keeper::claim(alloc, opener, &found.place, index, times, replace) {
             Ok(mut keeper) => {
                 if pieces > 0 {
-                    keeper.claim_row(alloc, names.recording.as_str(), pieces)?;
+                    keeper.claim_row(alloc, names.recording.as_str(), pieces, names.is_cut)?;
                 }
                 Ok(Film {
                     names,

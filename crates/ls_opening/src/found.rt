@@ -4,6 +4,7 @@ ghost use Rattle.std.specs.Prelude.{◌≡◌};
 use crate::names::Names;
 use ls_files::{Beside, INDEX, Identity, Place, Spot, TIMES, piece_path};
 use std::alloc::AllocError;
+use std::fs;
 use std::rt::Files;
 
 /// A film that was found, before anything is locked.
@@ -172,15 +173,16 @@ fn is_at(film: &Found<'_>, place: &Place<'_>) -> bool {
 }
 
 /// The number of pieces of an earlier recording that are renamed with it: those with numbers from 1 on, as far as they
-/// are there and neither they nor files beside them are one of the films, another film's recording or the report; none
-/// if the recording is written into a pipe, a device or an open file.
+/// are there and neither they nor files beside them are one of the films, another film's recording or the report, and
+/// no film stands beside them whose recordings they could be. None if the recording is written into a pipe, a device or
+/// an open file; or if it isn't there, and none is cut into pieces that would have these names.
 pub fn pieces_to_claim<R: Files + AllocGlobal>(
     rt: &R,
     film: &Found<'_>,
     films: &[Found<'_>],
     report: Option<&Place<'_>>,
 ) -> Result<u32, AllocError> {
-    if film.place.is_written_into() {
+    if film.place.is_written_into() || !(film.names.is_cut || film.place.standing().is_kept()) {
         return Ok(0);
     }
     for number in 0..u32::MAX - 1 {
@@ -192,7 +194,7 @@ pub fn pieces_to_claim<R: Files + AllocGlobal>(
 }
 
 /// Whether the piece of this number of an earlier recording is there, and neither it nor a file beside it is one of the
-/// films, another film's recording or the report.
+/// films, another film's recording or the report, and no film stands beside it whose recording it could be.
 fn has_piece<R: Files + AllocGlobal>(
     rt: &R,
     film: &Found<'_>,
@@ -203,7 +205,7 @@ fn has_piece<R: Files + AllocGlobal>(
     let alloc = rt.alloc();
     let path = piece_path(alloc, film.names.recording.as_str(), number)?;
     let place = Place::of(rt, &path);
-    if !place.standing().is_kept() || is_spoken_for(&place, films, report) {
+    if !place.standing().is_kept() || is_spoken_for(&place, films, report) || has_film(rt, &path) {
         return Ok(false);
     }
     for ending in [INDEX, TIMES] {
@@ -213,6 +215,14 @@ fn has_piece<R: Files + AllocGlobal>(
         }
     }
     Ok(true)
+}
+
+/// Whether a film stands beside the recording at this path, under its name without the ending.
+fn has_film<R: Files>(rt: &R, recording: &str) -> bool {
+    match recording.strip_suffix(".jls") {
+        Some(film) => fs::metadata(rt, film).is_ok(),
+        None => false,
+    }
 }
 
 /// Whether the file at a place is one of the films or the report, or a film's recording, or beside one.

@@ -15,9 +15,7 @@ use ls_archive::{
     CheckFault, CheckPartFault, Checked, Finding, Findings, Verdict, VerifyFault, VerifyPartFault,
     check_listed, check_listed_by, verify_part,
 };
-use ls_console::{
-    DONE, FAILED, Lines, Program, line_buffer, no_memory, open_film, open_from,
-};
+use ls_console::{DONE, FAILED, Lines, Program, line_buffer, no_memory, open_film, open_from};
 use ls_files::Opens;
 use ls_film::{MOST_FRAMES, Part};
 use ls_frame::{Counted, Feed, Outlet};
