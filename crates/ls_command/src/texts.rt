@@ -280,8 +280,8 @@ The folder for the recordings, which are named after the last parts of their FIL
 [default: beside each FILE]";
 
 pub const REPLACE_HELP: &str = "\
-Remove the FILE.jls that was renamed, its pieces, indexes and times, once the new recording has its first frame on
-the disk";
+Remove the FILE.jls that was renamed, its index and its times, and with --pieces its pieces, once the new recording
+has its first frame on the disk";
 
 pub const PROGRESS_HELP: &str = "\
 Report on standard error how far each film is, twice a second, and immediately when one stops;
