@@ -1,1 +1,2 @@
+pub mod LivesLemmas
 pub mod RecordedLemmas

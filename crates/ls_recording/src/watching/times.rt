@@ -40,13 +40,11 @@ impl TimesFault {
 /// The file of a film's times, or of those of the last piece of its recording, and why no more are written to it, if
 /// that is so.
 #[derive(Drop)]
-pub struct TimesFile<'a, O: Makes> {
+pub struct TimesFile<'a, O: Opens> {
     alloc: Global,
     /// It reads the clock.
     opener: O,
     path: &'a str,
-    /// Where the recording is cut into pieces, if it is.
-    cutting: Option<Cutting<'a, O>>,
     /// The number of the piece.
     pub piece: u32,
     pub output: Counted<Target<'a, O>>,
@@ -63,15 +61,9 @@ pub struct BrokenTimes<'a, O: Opens> {
     pub fault: TimesFault,
 }
 
-impl<'a, O: Makes + Copy + Drop> TimesFile<'a, O> {
-    /// Goes on with the file of the next piece, if that was begun.
-    fn follow(&mut self) {
-        let Some(cutting) = self.cutting else {
-            return;
-        };
-        let Some(file) = cutting.chain.take_times() else {
-            return;
-        };
+impl<'a, O: Opens + Copy + Drop> TimesFile<'a, O> {
+    /// Goes on with the file of the piece of this number.
+    fn follow(&mut self, file: O::File, piece: u32) {
         let next = Counted::new(Target::opened(self.opener, self.path, file));
         let output = mem::replace(&mut self.output, next);
         if let Some(fault) = self.fault.take() {
@@ -84,13 +76,12 @@ impl<'a, O: Makes + Copy + Drop> TimesFile<'a, O> {
                 });
             }
         }
-        self.piece = cutting.chain.begun();
+        self.piece = piece;
     }
 
     /// Writes the line of the frame of this number, of which the first byte and the last came at these times, and whose
     /// codestream has just been written to the recording. After a fault no more lines are written to the file.
     fn write(&mut self, number: u64, first: u64, last: u64) {
-        self.follow();
         if self.fault.is_none() {
             let out = self.opener.now();
             self.fault = match format!(in self.alloc; "{number} {first} {last} {out}\n") {
@@ -111,11 +102,13 @@ impl<'a, O: Makes + Copy + Drop> TimesFile<'a, O> {
 
 /// The times of a film's frames that aren't written yet, and the file to which they are written. The thread that reads
 /// the film notes them, and the one that writes its recording writes them.
-pub type FilmTimes<'a, O> = PendingTimes<TimesFile<'a, O>>;
+pub type FilmTimes<'a, O> = PendingTimes<TimesFile<'a, O>, Cutting<'a, O>>;
 
 /// Times that aren't written yet, and the file `F` to which they are written.
 #[derive(Drop)]
-pub struct PendingTimes<F> {
+pub struct PendingTimes<F, C> {
+    /// Where the recording is cut into pieces, if it is.
+    cutting: Option<C>,
     /// When the first byte and the last of each frame came, at its number modulo the widest window.
     first: Vec<AtomicU64>,
     last: Vec<AtomicU64>,
@@ -123,7 +116,7 @@ pub struct PendingTimes<F> {
     file: Mutex<Option<F>>,
 }
 
-impl<'a, O: Makes + Copy + Drop> PendingTimes<TimesFile<'a, O>> {
+impl<'a, O: Makes + Copy + Drop> PendingTimes<TimesFile<'a, O>, Cutting<'a, O>> {
     /// Times to be written to this file at a path, and to those of further pieces of the recording if it is cut into
     /// such. The opener reads the clock.
     pub fn new(
@@ -134,13 +127,13 @@ impl<'a, O: Makes + Copy + Drop> PendingTimes<TimesFile<'a, O>> {
         cutting: Option<Cutting<'a, O>>,
     ) -> Result<FilmTimes<'a, O>, AllocError> {
         Ok(PendingTimes {
+            cutting,
             first: places(alloc)?,
             last: places(alloc)?,
             file: Mutex::new(Some(TimesFile {
                 alloc,
                 opener,
                 path,
-                cutting,
                 piece: 0,
                 output: Counted::new(target),
                 fault: None,
@@ -157,10 +150,16 @@ impl<'a, O: Makes + Copy + Drop> PendingTimes<TimesFile<'a, O>> {
         }
     }
 
-    /// Writes the line of the frame of this number, whose codestream has just been written to the recording.
+    /// Writes the line of the frame of this number, whose codestream has just been written to the recording: to the file
+    /// of the next piece, if that was begun.
     pub fn write<R: Wait>(&self, rt: &R, number: u64) {
         if let (Some(first), Some(last)) = (at(&self.first, number), at(&self.last, number)) {
             if let Some(file) = &mut *self.file.lock(rt) {
+                if let Some(cutting) = self.cutting {
+                    if let Some(next) = cutting.chain.take_times() {
+                        file.follow(next, cutting.chain.begun());
+                    }
+                }
                 file.write(
                     number,
                     first.load(Ordering::SeqCst),
