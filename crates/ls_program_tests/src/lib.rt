@@ -10,10 +10,6 @@ mod commands;
 mod memory;
 mod playing;
 #[cfg(test)]
-mod recording;
-#[cfg(test)]
-mod runtime;
-#[cfg(test)]
 mod testing;
 
 pub use memory::{Blank, Memory, MemoryFile, Named};
