@@ -9,17 +9,13 @@ import subprocess
 import sys
 import time
 
+sys.dont_write_bytecode = True
+sys.path.insert(0, os.path.join(os.path.dirname(os.path.abspath(__file__)), "..", "program"))
+from cases import Cases
+
 PROGRAM = sys.argv[1]
-passed = failed = 0
-
-
-def count(name, holds, *more):
-    global passed, failed
-    if holds:
-        passed += 1
-    else:
-        failed += 1
-        print("FAILED", name, *more)
+cases = Cases(PROGRAM)
+count = cases.count
 
 
 def image(number, width=5, height=3):
@@ -288,5 +284,4 @@ stopped(signal.SIGTERM)
 kept_open()
 stopped_at_border()
 many(1000)
-print(f"{passed} passed, {failed} failed")
-sys.exit(failed > 0)
+cases.end()

@@ -25,12 +25,12 @@ class Cases:
         )
         return ended.returncode, ended.stdout, ended.stderr.decode()
 
-    def count(self, name, holds, shown):
+    def count(self, name, holds, *shown):
         if holds:
             self.passed += 1
         else:
             self.failed += 1
-            print(f"FAILED {name}: {shown}"[:2000])
+            print(f"FAILED {name}: {' '.join(map(str, shown))}"[:2000])
 
     def says(self, status, output, said, *words, **environment):
         """A case: the words, and what comes of them."""

@@ -17,20 +17,16 @@ import termios
 import threading
 import time
 
+sys.dont_write_bytecode = True
+sys.path.insert(0, os.path.join(os.path.dirname(os.path.abspath(__file__)), "..", "program"))
+from cases import Cases
+
 PROGRAM, MOMENTS = sys.argv[1], int(sys.argv[2])
 STOPS = (signal.SIGHUP, signal.SIGINT, signal.SIGTERM)
 # The seconds within which a stopped recording ends: what is in its windows takes much less.
 MOST = 2.0
-passed = failed = 0
-
-
-def count(name, holds, *more):
-    global passed, failed
-    if holds:
-        passed += 1
-    else:
-        failed += 1
-        print("FAILED", name, *more)
+cases = Cases(PROGRAM)
+count = cases.count
 
 
 def frame(number, width, height):
@@ -607,5 +603,4 @@ few_descriptors()
 plain_files()
 for moment in range(MOMENTS):
     draw(moment)
-print(f"{passed} passed, {failed} failed")
-sys.exit(failed > 0)
+cases.end()

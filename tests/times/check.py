@@ -10,19 +10,15 @@ import sys
 import threading
 import time
 
+sys.dont_write_bytecode = True
+sys.path.insert(0, os.path.join(os.path.dirname(os.path.abspath(__file__)), "..", "program"))
+from cases import Cases
+
 PROGRAM = sys.argv[1]
 # The time within which a byte that is sent is read, in nanoseconds: of an idle machine much less.
 TOLERANCE = 50_000_000
-passed = failed = 0
-
-
-def count(name, holds, *more):
-    global passed, failed
-    if holds:
-        passed += 1
-    else:
-        failed += 1
-        print("FAILED", name, *more)
+cases = Cases(PROGRAM)
+count = cases.count
 
 
 def image(number, width, height):
@@ -159,5 +155,4 @@ stopped(signal.SIGINT)
 stopped(signal.SIGTERM)
 failing()
 at_once()
-print(f"{passed} passed, {failed} failed")
-sys.exit(failed > 0)
+cases.end()
