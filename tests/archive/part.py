@@ -1,5 +1,5 @@
-"""Runs `check` and `verify` with `--frames` over recordings and indexes: part.py PROGRAM, in a folder of its own. Prints each case that
-fails, and how many passed. Indexes are written here, by hashlib, and images by the codestreams' authors."""
+"""Runs `check`, `verify` and `play` with `--frames` over recordings and indexes: part.py PROGRAM, in a folder of its own. Prints each case
+that fails, and how many passed. Indexes are written here, by hashlib, and images by the codestreams' authors."""
 
 import hashlib
 import os
@@ -10,7 +10,7 @@ import time
 sys.dont_write_bytecode = True
 sys.path.insert(0, os.path.join(os.path.dirname(os.path.abspath(__file__)), "..", "program"))
 from cases import Cases, write
-from codestreams import ANNEX_H, BLACK, BLACK_AGAIN, BROKEN, MIXED, WHITE, film, recording
+from codestreams import ANNEX_H, BLACK, BLACK_AGAIN, BROKEN, COLOUR, MIXED, SIXTEEN, WHITE, film, recording
 
 cases = Cases(sys.argv[1])
 count, says = cases.count, cases.says
@@ -66,6 +66,23 @@ write("empty.jls", b"")
 checks(0, end(0, name="empty.jls"), "", *check("0..", "empty", "empty.jls"))
 checks(1, "", "jlsrec: empty: only 0 frames\n", *check("0", "empty", "empty.jls"))
 checks(1, "", "jlsrec: empty: only 0 frames\n", *check("1..", "empty", "empty.jls"))
+
+# ---- a byte of a codestream before the part is another: the frames keep their numbers, or it is said where they don't
+
+frames = [BLACK, ANNEX_H, WHITE, SIXTEEN, COLOUR]
+write("film", film(frames))
+stream = ANNEX_H[0]
+for at, byte in enumerate(stream):
+    for other in {0x00, 0xFF, 0xD8, 0xD9, byte ^ 0x80, byte ^ 1} - {byte}:
+        name = f"byte {at} of frame 1 is {other:02x}"
+        write("damaged.jls", BLACK[0] + stream[:at] + bytes([other]) + stream[at + 1 :] + recording(frames[2:]))
+        status, shown, said = cases.run("play", "--frames", "3", "damaged.jls")
+        stops = status == 1 and said.startswith(("jlsrec: damaged.jls: frame 1: ", "jlsrec: damaged.jls: frame 2: "))
+        count(f"{name}: play", (status, shown, said) == (0, SIXTEEN[1], "") or (stops and not shown), status, shown, said)
+        again = cases.run("verify", "--frames", "3", "film", "damaged.jls")
+        count(f"{name}: verify", again == ((1, b"", said) if stops else (0, b"", "")), again)
+frames = MIXED * 3
+write("film", film(frames))
 
 # ---- a recording that goes on: its last line and its last codestream are written in part
 

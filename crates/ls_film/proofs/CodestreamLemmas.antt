@@ -1,5 +1,7 @@
 -- The next codestream of a recording: what is made of it, or its fault, says the same of what the reader had left.
-use Rattle.std.proofs.Common.{◌≡◌, ◌⊎◌, ℕ, inl, inr, List, [], ◌∷◌, ◌++◌, take, length, Option, refl, ap, ◌∙◌, arith, append-nil}
+use Rattle.std.specs.Prelude.{Ok, Err}
+use Rattle.std.proofs.Common.{◌≡◌, ◌⊎◌, ℕ, inl, inr, List, [], ◌∷◌, ◌++◌, take, drop, length, Option, refl, sym, ap, ◌∙◌, arith, append-nil}
+use Rattle.std.proofs.lemmas.List.{take-append-drop}
 use Rattle.std.proofs.lemmas.List.Concat.{flat_map-append}
 use Rattle.ls_frame.specs.Canonical.{canonical}
 use Rattle.ls_frame.specs.Picture.{Picture, IsFrame}
@@ -10,7 +12,7 @@ use Rattle.ls_stream.specs.declared.next.NextFault.{NextFault}
 use Rattle.ls_stream.specs.declared.next.NextFault.TheVariants as next
 use Rattle.ls_stream.specs.Grammar.{Spells, most_bytes}
 use Rattle.ls_stream.specs.View.Extents.{IsNext, BeginsEndless}
-use Rattle.ls_stream.specs.View.Outlines.{IsFirstFault}
+use Rattle.ls_stream.specs.View.Outlines.{outline_of, IsFirstFault, SpellingsHaveBoundedOutlines}
 use Rattle.ls_film.specs.Showing.{show}
 use Rattle.ls_film.specs.View.Codestreams.{BeginsWithNone, IsTaken, IsUnmade, IsUnread, IsUntaken, FailsReading, unread_of}
 use Rattle.ls_film.specs.declared.codestreams.Unread.{Unread}
@@ -65,6 +67,20 @@ pub fault-is : (bytes : List ℕ) (fault : StreamFault) → (fault ≡ stream.No
 fault-is bytes fault (inl memory) first = inl memory
 fault-is bytes fault (inr none) (inl memory) = inl memory
 fault-is bytes fault (inr none) (inr first) = inr (none, first)
+
+-- bytes that have a fault in their markers or headers begin with no codestream of a frame
+outlined_none : (bytes : List ℕ) (found : StreamFault) → SpellingsHaveBoundedOutlines → outline_of bytes ≡ Err found
+    → (front rest : List ℕ) (f : Picture) → bytes ≡ front ++ rest → Spells front f → ⊥
+outlined_none bytes found read is front rest f split spells =
+    let has = read front rest f spells in
+    let both : Err found ≡ Ok (has.0, rest) = sym is ∙ ap outline_of split ∙ has.1 in
+    let clash : ⊥ = cc in
+    clash
+
+-- so they can't be decoded
+pub outlined-decoded : (bytes : List ℕ) (found : StreamFault) → SpellingsHaveBoundedOutlines → outline_of bytes ≡ Err found → (used : ℕ) (f : Picture) → Spells (take used bytes) f
+    → IsUnmade bytes found
+outlined-decoded bytes found read is used f spells = absurd (outlined_none bytes found read is (take used bytes) (drop used bytes) f (sym (take-append-drop used bytes)) spells)
 
 -- what is shown grows by the image of a frame
 pub show-more : (frames : List Picture) (f : Picture) → show (frames ++ f ∷ []) ≡ show frames ++ canonical f

@@ -4,7 +4,7 @@ use Rattle.std.proofs.Common.{Bool, true, false, None, Some, ◌≡◌, ◌⊎�
 use Rattle.std.proofs.KnownBytes.{Appends-nil}
 use Rattle.std.proofs.lemmas.List.{length_push, length-append, length-drop, take_at, drop_at}
 use Rattle.ls_frame.specs.Picture.{Picture}
-use Rattle.ls_frame.specs.View.Known.{Tells, Gave, known}
+use Rattle.ls_frame.specs.View.Known.{Tells, Gave, HadBytes, known}
 use Rattle.ls_stream.specs.Grammar.{Spells}
 use Rattle.ls_stream.specs.View.Extents.{IsNext}
 use Rattle.std.specs.Io.KnownBytes.{Appends}
@@ -13,10 +13,11 @@ use Rattle.ls_stream.proofs.ExtentLaws.{next_is}
 use Rattle.ls_film.specs.Film.{most_frames, IsFilm}
 use Rattle.ls_film.specs.View.Engine.{Completes, HasRun}
 use Rattle.ls_film.specs.View.Playing.{Stops, stream_fault}
-use Rattle.ls_film.specs.View.Codestreams.{IsUntaken}
+use Rattle.ls_film.specs.View.Codestreams.{IsUnread, IsOutlined, WasPassed}
 use Rattle.ls_film.specs.declared.codestreams.Unread.TheVariants as unread
 use Rattle.ls_stream.specs.declared.faults.StreamFault.{StreamFault}
-use Rattle.ls_film.specs.View.Parts.{joined, ArePassed, GavePassed, ShowsNext, ShowsPart, EndsEarly, StopsPassing, LacksPart, StopsShowing, IsShortOf, IsNoneOfStreams, later}
+use Rattle.ls_stream.specs.declared.faults.StreamFault.TheVariants as stream
+use Rattle.ls_film.specs.View.Parts.{joined, ArePassed, GavePassed, ShowsNext, ShowsPart, EndsEarly, IsFaultAt, StopsPassing, LacksPart, StopsShowing, IsShortOf, IsNoneOfStreams, later}
 use Rattle.ls_film.specs.declared.playing.PlayFault.{PlayFault}
 use Rattle.ls_film.specs.declared.playing.PlayFault.TheVariants.{Stream, Io, Output, NoMemory, TooMuch}
 use Rattle.ls_film.proofs.OneFilmLemmas.{more_frames, no_frames}
@@ -28,20 +29,21 @@ joined_more [] codestream = append-nil codestream
 joined_more (first ∷ streams) codestream = ap (λ s. first ++ s) (joined_more streams codestream) ∙ sym (append_assoc first (joined streams) codestream)
 
 -- one more codestream
-passed_more : (streams : List (List ℕ)) (codestream rest : List ℕ) → ArePassed streams (codestream ++ rest) → IsNext codestream rest → ArePassed (streams ++ codestream ∷ []) rest
-passed_more [] codestream rest passed next = (next, tt)
-passed_more (first ∷ streams) codestream rest passed next =
+passed_more : (streams : List (List ℕ)) (codestream rest : List ℕ) → ArePassed streams (codestream ++ rest) → IsNext codestream rest → IsOutlined codestream
+    → ArePassed (streams ++ codestream ∷ []) rest
+passed_more [] codestream rest passed next outlined = (next, outlined, tt)
+passed_more (first ∷ streams) codestream rest passed next outlined =
     let same : joined streams ++ (codestream ++ rest) ≡ joined (streams ++ codestream ∷ []) ++ rest =
     sym (append_assoc (joined streams) codestream rest) ∙ ap (λ s. s ++ rest) (sym (joined_more streams codestream)) in
-    (subst (IsNext first) same passed.0, passed_more streams codestream rest passed.1 next)
+    (subst (IsNext first) same passed.0, passed.1, passed_more streams codestream rest passed.2 next outlined)
 
-pub passed-more : (read mid new : Option (List ℕ)) (n : ℕ) (codestream : List ℕ) → GavePassed read mid n → Gave mid new (λ bytes. (codestream ≡ bytes) × IsNext bytes (known new))
-    → GavePassed read new (n + 1)
-passed-more read mid new n codestream passed next = λ told.
+pub passed-more : (read mid new : Option (List ℕ)) (n : ℕ) → GavePassed read mid n → WasPassed mid new → GavePassed read new (n + 1)
+passed-more read mid new n passed was = λ told.
     let front = passed told in
-    let one = next front.0 in
+    let one = was.1 front.0 in
     let streams : List (List ℕ) = front.3.0 in
-    let before : ArePassed streams (one.1 ++ known new) = subst (ArePassed streams) one.2 front.3.3 in (
+    let before : ArePassed streams (one.1 ++ known new) = subst (ArePassed streams) one.2 front.3.3 in
+    let outlined : IsOutlined one.1 = subst IsOutlined one.3.0 was.2 in (
       one.0,
       front.1 ++ one.1,
       front.2 ∙ ap (λ s. front.1 ++ s) one.2 ∙ sym (append_assoc front.1 one.1 (known new)),
@@ -49,7 +51,7 @@ passed-more read mid new n codestream passed next = λ told.
         streams ++ one.1 ∷ [],
         length_push streams one.1 ∙ ap (λ k. k + 1) front.3.1,
         ap (λ s. s ++ one.1) front.3.2 ∙ sym (joined_more streams one.1),
-        passed_more streams one.1 (known new) before one.3.1,
+        passed_more streams one.1 (known new) before one.3.1 outlined,
       ),
     )
 
@@ -98,7 +100,7 @@ passed_film (first ∷ streams) rest bytes (f ∷ frames) whole passed film =
     let is : first ≡ film.0 = next_is first after film.0 film.1 f passed.0 split film.3 in
     let left : film.1 ≡ after =
     sym (drop_at film.0 film.1 (length film.0) refl) ∙ ap (drop (length film.0)) (sym split) ∙ ap (λ n. drop n (first ++ after)) (sym (ap length is)) ∙ drop_at first after (length first) refl in
-    let more = passed_film streams rest film.1 frames left passed.1 film.4 in
+    let more = passed_film streams rest film.1 frames left passed.2 film.4 in
     (omega (arith, more.0), more.1)
 
 no_more : (frames : List Picture) → length frames ≡ 0 → frames ≡ []
@@ -157,9 +159,9 @@ module _ (only : (one other rest : List ℕ) (f g : Picture) → Spells one f �
 
   pub part-unpassed : (read' : Option (List ℕ)) (first : ℕ) (fault : PlayFault) → StopsPassing read read' first fault → IsNoneOfStreams fault
   part-unpassed read' first fault stops = elim stops.fault_is [
-    | inl large ↦
+    | inl broken ↦
         let rest = rest_film read stops.mid stops.m frames told film stops.passed in
-        absurd (no_break only same (known stops.mid) (drop stops.m frames) rest.2 (large.1 rest.0).0)
+        absurd (no_break only same (known stops.mid) (drop stops.m frames) rest.2 (broken.3 rest.0).0)
     | inr other ↦ elim other [
       | inl io ↦ rw io.0 tt
       | inr memory ↦ rw memory.0 tt
@@ -230,19 +232,32 @@ shows-run read read' written written' false n all some =
 
 -- ---- why passing over the first codestreams stopped
 
-pub stops-passing : (read mid read' : Option (List ℕ)) (first m : ℕ) (fault : StreamFault) → m < first → GavePassed read mid m → IsUntaken (unread.Stream fault) mid read'
+-- a fault that isn't lack of memory
+broken_by : (m : ℕ) (mid read' : Option (List ℕ)) (fault : StreamFault) → (fault ≡ stream.NoMemory → ⊥) → IsUnread (unread.Stream fault) mid read' → IsFaultAt m mid read' (Stream m fault)
+broken_by m mid read' fault other (inl memory) = absurd (other memory.0)
+broken_by m mid read' fault other (inr breaks) = inl (fault, refl, other, breaks)
+
+had_bytes : (mid read' : Option (List ℕ)) → IsUnread (unread.Stream stream.NoMemory) mid read' → HadBytes mid
+had_bytes mid read' (inl memory) = memory.1
+had_bytes mid read' (inr breaks) = λ told. (breaks told).0.some
+
+fault_at : (m : ℕ) (mid read' : Option (List ℕ)) (fault : StreamFault) → IsUnread (unread.Stream fault) mid read' → IsFaultAt m mid read' (stream_fault m fault)
+fault_at m mid read' stream.Truncated why = broken_by m mid read' stream.Truncated (λ is. let clash : ⊥ = cc in clash) why
+fault_at m mid read' stream.NotSoi why = broken_by m mid read' stream.NotSoi (λ is. let clash : ⊥ = cc in clash) why
+fault_at m mid read' stream.BadSegment why = broken_by m mid read' stream.BadSegment (λ is. let clash : ⊥ = cc in clash) why
+fault_at m mid read' (stream.Unsupported what) why = broken_by m mid read' (stream.Unsupported what) (λ is. let clash : ⊥ = cc in clash) why
+fault_at m mid read' (stream.BadPresets fault) why = broken_by m mid read' (stream.BadPresets fault) (λ is. let clash : ⊥ = cc in clash) why
+fault_at m mid read' stream.TooLarge why = broken_by m mid read' stream.TooLarge (λ is. let clash : ⊥ = cc in clash) why
+fault_at m mid read' (stream.BadCode component) why = broken_by m mid read' (stream.BadCode component) (λ is. let clash : ⊥ = cc in clash) why
+fault_at m mid read' (stream.LeftoverBits component) why = broken_by m mid read' (stream.LeftoverBits component) (λ is. let clash : ⊥ = cc in clash) why
+fault_at m mid read' stream.NoMemory why = inr (inr (refl, had_bytes mid read' why))
+
+pub stops-passing : (read mid read' : Option (List ℕ)) (first m : ℕ) (fault : StreamFault) → m < first → GavePassed read mid m → IsUnread (unread.Stream fault) mid read'
     → StopsPassing read read' first (stream_fault m fault)
-stops-passing read mid read' first m fault before passed (inl memory) = record {
+stops-passing read mid read' first m fault before passed why = record {
   m = m;
   before = before;
   mid = mid;
   passed = passed;
-  fault_is = inr (inr (ap (stream_fault m) memory.0, memory.1));
-}
-stops-passing read mid read' first m fault before passed (inr large) = record {
-  m = m;
-  before = before;
-  mid = mid;
-  passed = passed;
-  fault_is = inl (ap (stream_fault m) large.0, λ told. let is = large.1 told in (is.0, inr (refl, is.1)));
+  fault_is = fault_at m mid read' fault why;
 }

@@ -1,16 +1,18 @@
 //! The codestreams of a recording: the next is taken off a reader, and its frame decoded.
-ghost use Rattle.std.specs.Prelude.{◌≡◌, Bool, List, ℕ, Option, ⊤, false, refl, IfOk, IfErr, IfSome, IfNone, MatchResult};
+ghost use Rattle.std.specs.Prelude.{◌≡◌, Bool, List, ℕ, Option, Err, ⊤, true, false, refl, IfOk, IfErr, IfSome, IfNone, MatchResult};
 ghost use Rattle.ls_frame.specs.Picture.{Picture};
 ghost use Rattle.ls_frame.specs.View.Devices.{count_after};
 ghost use Rattle.ls_frame.specs.View.Known.{WasAtEnd};
 ghost use Rattle.ls_stream.specs.Grammar.{Spells};
 ghost use Rattle.ls_film.specs.declared.codestreams.Unread.{Unread};
-ghost use Rattle.ls_film.specs.View.Codestreams.{IsTaken, IsMadeOf, IsUnmade, is_io, unread_of, IsUnread, IsUntaken};
+ghost use Rattle.ls_stream.specs.View.Outlines.{outline_of};
+ghost use Rattle.ls_film.specs.View.Codestreams.{IsTaken, IsMadeOf, IsUnmade, IsOutlined, WasPassed, is_io, unread_of, IsUnread, IsUntaken};
 ghost use Rattle.ls_film.specs.View.Steps.{failed_by};
 
 use crate::engine::{Images, Made};
 use ls_frame::Feed;
-use ls_stream::{NextFault, StreamFault, decode_frame, next_stream};
+use ls_stream::laws::outlines_follow_the_grammar;
+use ls_stream::{NextFault, Opening, StreamFault, decode_frame, next_stream};
 use std::alloc::Global;
 
 /// Why the next codestream gives no frame.
@@ -53,6 +55,54 @@ pub fn take_codestream<R: Feed>(alloc: Global, reader: &mut R) -> Result<Option<
         }
         Ok(None) => Ok(None),
         Err(fault) => Err(Unread::of(fault)),
+    }
+}
+
+/// Passes over the next codestream of a reader, and reads not a byte more: its markers and headers are looked at, and its
+/// data isn't decoded. Returns `false` exactly at the end.
+///
+/// Its fault is as that of `take_codestream`. If there is one in its markers or headers, it is decoded, and its fault is
+/// the first of all, so that the bytes after it aren't taken for further codestreams.
+pub fn pass_codestream<R: Feed>(alloc: Global, reader: &mut R) -> Result<bool, Unread>
+    ensures passed { IfOk result (λ is_passed. is_passed ≡ true → WasPassed (R.remaining reader.old) (R.remaining reader.new)) }
+    ensures end { IfOk result (λ is_passed. is_passed ≡ false → WasAtEnd (R.remaining reader.old) (R.remaining reader.new)) }
+    ensures stops { IfErr result (λ fault. IsUnread fault (R.remaining reader.old) (R.remaining reader.new)) }
+    ensures failures { R.failed_reads reader.new ≡ count_after (failed_by is_io result) (R.failed_reads reader.old) }
+{
+    let bytes = match take_codestream(alloc, reader) {
+        Ok(Some(bytes)) => bytes,
+        Ok(None) => return Ok(false),
+        Err(fault) => return Err(fault),
+    };
+    match look_over(&bytes) {
+        Ok(()) => Ok(true),
+        Err(found) => Err(Unread::Stream(first_fault(alloc, &bytes, found))),
+    }
+}
+
+/// Looks at the markers and headers of the codestream at the front of bytes.
+fn look_over(bytes: &[u8]) -> Result<(), StreamFault>
+    ensures { MatchResult result (λ _. IsOutlined bytes.now) (λ fault. outline_of bytes.now ≡ Err fault) }
+{
+    let opening = match Opening::read(bytes) {
+        Ok(opening) => opening,
+        Err(fault) => return Err(fault),
+    };
+    match opening.skip() {
+        Ok(_used) => Ok(()),
+        Err(fault) => Err(fault),
+    }
+}
+
+/// The first fault of bytes in whose markers or headers this fault was found.
+fn first_fault(alloc: Global, bytes: &[u8], found: StreamFault) -> StreamFault
+    requires { outline_of bytes.now ≡ Err found }
+    ensures { IsUnmade bytes.now result }
+{
+    outlines_follow_the_grammar();
+    match decode_frame(alloc, bytes) {
+        Ok(_decoded) => found,
+        Err(fault) => fault,
     }
 }
 

@@ -11,7 +11,7 @@ ghost use Rattle.ls_film.specs.View.Parts.{GavePassed, ShowsNext, ShowsPart, Sto
 ghost use Rattle.ls_film.specs.View.Playing.{Stops};
 ghost use Rattle.ls_film.specs.View.Steps.{failed_by};
 
-use crate::codestreams::{OneByOne, Unread, take_codestream};
+use crate::codestreams::{OneByOne, Unread, pass_codestream};
 use crate::engine::{Run, Stopped, write_at_most, write_text};
 use crate::faults::MOST_FRAMES;
 use crate::playing::{Image, ImageText, PlayFault};
@@ -45,8 +45,8 @@ pub enum PartFault {
 
 /// Writes the canonical Netpbm image of each frame of a part of a recording, and returns the number of these frames.
 ///
-/// The codestreams before the part are passed over by their markers, so faults that only decoding would show aren't
-/// found in them. Each image is written before the next codestream is read, and no codestream after the part is read.
+/// The codestreams before the part are passed over by their markers and headers, so faults that only decoding would show
+/// aren't found in them. Each image is written before the next codestream is read, and no codestream after the part is read.
 /// If the bytes of reader and writer are known (as in memory), the clauses say which were read and written. After
 /// `Stream` and `NoMemory` the reader's place is unspecified; `Io` and `NoMemory` are as for `play`.
 ///
@@ -131,10 +131,11 @@ fn show_next<R: Feed, W: Outlet>(
     }
 }
 
-/// Passes over the next `count` codestreams by their markers, or over all if there are fewer. Returns how many these were,
-/// and whether the reader was seen to be at its end.
+/// Passes over the next `count` codestreams by their markers and headers, or over all if there are fewer. Returns how many
+/// these were, and whether the reader was seen to be at its end.
 ///
-/// Fails as `play_part` does before its part: if no end of a codestream is found, a read fails (`Io(0)`), or an allocation.
+/// Fails as `play_part` does before its part: if a codestream has a fault in its markers or headers, a read fails
+/// (`Io(0)`), or an allocation.
 pub fn pass_streams<R: Feed>(alloc: Global, reader: &mut R, count: u64) -> Result<Run, PlayFault>
     ensures passed { IfOk result (λ run. GavePassed (R.remaining reader.old) (R.remaining reader.new) run.frames) }
     ensures most { IfOk result (λ run. (run.frames ≤ count) × (run.ended ≡ false → run.frames ≡ count)) }
@@ -144,9 +145,9 @@ pub fn pass_streams<R: Feed>(alloc: Global, reader: &mut R, count: u64) -> Resul
     ensures failures { R.failed_reads reader.new ≡ count_after (failed_play result) (R.failed_reads reader.old) }
 {
     for number in 0..count {
-        match take_codestream(alloc, reader) {
-            Ok(Some(_)) => {}
-            Ok(None) => {
+        match pass_codestream(alloc, reader) {
+            Ok(true) => {}
+            Ok(false) => {
                 return Ok(Run {
                     frames: number,
                     ended: true,

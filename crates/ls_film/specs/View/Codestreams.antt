@@ -1,5 +1,5 @@
 -- The next codestream of a recording: what is taken off a reader, what is made of its frame, and why there is none.
-use Rattle.std.specs.Prelude.{◌≡◌, ◌⊎◌, ◌↔◌, ◌<◌, ℕ, Bool, true, false, List, ◌++◌, length, take, Option}
+use Rattle.std.specs.Prelude.{◌≡◌, ◌⊎◌, ◌↔◌, ◌<◌, ℕ, Bool, true, false, List, ◌++◌, length, take, Option, Ok}
 use Rattle.ls_bits.specs.Bits.{AreBytes}
 use Rattle.ls_frame.specs.Picture.{Picture}
 use Rattle.ls_frame.specs.View.Known.{Tells, Gave, HadBytes, known}
@@ -9,7 +9,7 @@ use Rattle.ls_stream.specs.declared.next.NextFault.{NextFault}
 use Rattle.ls_stream.specs.declared.next.NextFault.TheVariants as next_fault
 use Rattle.ls_stream.specs.Grammar.{Spells}
 use Rattle.ls_stream.specs.View.Extents.{IsNext, IsUndecided, BeginsEndless, with_left}
-use Rattle.ls_stream.specs.View.Outlines.{outline_of, IsFirstFault}
+use Rattle.ls_stream.specs.View.Outlines.{Outline, outline_of, IsFirstFault}
 use Rattle.ls_film.specs.declared.codestreams.Unread.{Unread}
 use Rattle.ls_film.specs.declared.codestreams.Unread.TheVariants.{Stream, Io}
 
@@ -73,3 +73,13 @@ IsMadeOf made bytes x = (f : Picture) × (used : ℕ) × Spells (take used bytes
 abbrev pub IsUnmade : List ℕ → StreamFault → Type 0
 IsUnmade bytes fault =
     (fault ≡ stream.NoMemory) ⊎ (((front rest : List ℕ) (f : Picture) → bytes ≡ front ++ rest → Spells front f → ⊥) × IsFirstFault bytes fault)
+
+-- ---- what is passed over
+
+-- a codestream at the front of these bytes has no fault in its markers and headers
+abbrev pub IsOutlined : List ℕ → Type 0
+IsOutlined bytes = (outline : Outline) × (left : List ℕ) × (outline_of bytes ≡ Ok (outline, left))
+
+-- A reader gave the next codestream, which has no fault in its markers and headers.
+abbrev pub WasPassed : Option (List ℕ) → Option (List ℕ) → Type 0
+WasPassed read read' = (bytes : List ℕ) × Gave read read' (λ taken. (bytes ≡ taken) × IsNext taken (known read')) × IsOutlined bytes

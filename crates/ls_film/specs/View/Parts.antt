@@ -1,9 +1,10 @@
 -- A part of a recording: the codestreams before it are passed over by their markers, and its frames are shown.
-use Rattle.std.specs.Prelude.{◌≡◌, ◌⊎◌, ◌<◌, ◌≤◌, ◌+◌, ℕ, Bool, false, List, [], ◌∷◌, ◌++◌, length, take, drop, Option, None, Some, Result, Ok, Err}
+use Rattle.std.specs.Prelude.{◌≡◌, ◌≢◌, ◌⊎◌, ◌<◌, ◌≤◌, ◌+◌, ℕ, Bool, false, List, [], ◌∷◌, ◌++◌, length, take, drop, Option, None, Some, Result, Ok, Err}
 use Rattle.std.specs.Io.KnownBytes.{Appends}
 use Rattle.std.specs.List.{AllByRecursion}
 use Rattle.ls_frame.specs.Picture.{Picture, IsFrame}
 use Rattle.ls_frame.specs.View.Known.{Tells, Gave, HadBytes, known}
+use Rattle.ls_stream.specs.declared.faults.StreamFault.{StreamFault}
 use Rattle.ls_stream.specs.declared.faults.StreamFault.TheVariants as stream
 use Rattle.ls_stream.specs.Grammar.{Spells}
 use Rattle.ls_stream.specs.View.Extents.{IsNext}
@@ -13,7 +14,7 @@ use Rattle.ls_film.specs.declared.playing.PlayFault.{PlayFault}
 use Rattle.ls_film.specs.declared.playing.PlayFault.TheVariants.{Stream, Io, Output, NoMemory, TooMuch}
 use Rattle.ls_film.specs.Showing.{show}
 use Rattle.ls_film.specs.View.Given.{GaveFrames}
-use Rattle.ls_film.specs.View.Codestreams.{BreaksBy, FailsReading}
+use Rattle.ls_film.specs.View.Codestreams.{BreaksBy, FailsReading, IsOutlined}
 use Rattle.ls_film.specs.View.Playing.{Stops, blames_reader as reader_at_fault, blames_writer as writer_at_fault}
 use Rattle.ls_film.specs.View.Steps.{failed_by}
 
@@ -23,24 +24,29 @@ abbrev pub joined : List (List ℕ) → List ℕ
 joined [] = []
 joined (codestream ∷ more) = codestream ++ joined more
 
--- Each is the next codestream, by its markers, of the bytes from its start on; rest follows the last one.
+-- Each is the next codestream, by its markers, of the bytes from its start on, and has no fault in its markers and headers; rest follows the last one.
 abbrev pub ArePassed : List (List ℕ) → List ℕ → Type 0
 ArePassed [] rest = Unit {0}
-ArePassed (codestream ∷ more) rest = IsNext codestream (joined more ++ rest) × ArePassed more rest
+ArePassed (codestream ∷ more) rest = IsNext codestream (joined more ++ rest) × IsOutlined codestream × ArePassed more rest
 
 -- The reader gave n codestreams, by their markers.
 abbrev pub GavePassed : Option (List ℕ) → Option (List ℕ) → ℕ → Type 0
 GavePassed old new n = Gave old new (λ bytes. (streams : List (List ℕ)) × (length streams ≡ n) × (bytes ≡ joined streams) × ArePassed streams (known new))
 
--- Passing over the first codestreams stopped at codestream m: as many bytes as a codestream may have show no end of one, and no codestream of a
--- frame is at their front; or a read failed in it; or an allocation failed for it.
+-- Codestream m can't be passed over: what is left begins with no codestream of a frame, and has this fault; or a read failed in it; or an allocation failed
+-- for it.
+abbrev pub IsFaultAt : ℕ → Option (List ℕ) → Option (List ℕ) → PlayFault → Type 0
+IsFaultAt m left read' fault =
+    ((cause : StreamFault) × (fault ≡ Stream m cause) × (cause ≢ stream.NoMemory) × (Tells left → BreaksBy cause (known left)))
+    ⊎ ((fault ≡ Io 0) × FailsReading left read') ⊎ ((fault ≡ NoMemory) × HadBytes left)
+
+-- Passing over the first codestreams stopped at codestream m.
 pub record StopsPassing (read read' : Option (List ℕ)) (first : ℕ) (fault : PlayFault) : Type 0 where
   pub m : ℕ
   pub before : m < first
   pub mid : Option (List ℕ)
   pub passed : GavePassed read mid m
-  pub fault_is : ((fault ≡ Stream m stream.TooLarge) × (Tells mid → BreaksBy stream.TooLarge (known mid)))
-      ⊎ ((fault ≡ Io 0) × FailsReading mid read') ⊎ ((fault ≡ NoMemory) × HadBytes mid)
+  pub fault_is : IsFaultAt m mid read' fault
 
 -- ---- the part
 
