@@ -33,6 +33,8 @@ import operator
 import os
 import sys
 import threading
+import zlib
+from bisect import bisect_right
 from collections.abc import Iterable, Iterator, Sequence
 from dataclasses import dataclass
 from pathlib import Path
@@ -73,10 +75,16 @@ Name = Union[str, os.PathLike]
 # How much of a recording is read at a time to look for its codestreams, and of a codestream for its header.
 WINDOW = 1 << 18
 HEAD = 1 << 12
+# How many samples of a frame are worth a thread that decodes: with fewer, threads wait for Python's lock longer.
+SAMPLES = 1 << 12
 # Hardly any codestream has fewer bytes, and so many are looked for at once.
 LEAST, MANY = 32, 1 << 14
+# Of the codestreams that are found at once so many sums are kept at least, or that of each.
+RUNS = 1 << 8
 # How a codestream begins: SOI, and the first byte of another marker. In the data of a scan this can't stand.
 SOI = b"\xff\xd8\xff"
+# How it ends. In the data of a scan this can't stand either.
+EOI = b"\xff\xd9"
 
 BYTE, WORD = np.dtype(np.uint8), np.dtype(np.uint16)
 
@@ -224,8 +232,16 @@ class Recording(Sequence):
     and nothing of it is returned. header(i) looks at the form alone, size(i) only at the line.
 
     Threads may share a recording. It is the file as it was when it was opened: frames appended later are seen once
-    refresh() is called, and of a file that is replaced, as by `write`, the earlier one is still read. If the file has
-    shrunk since, or was written over, RecordingChanged is raised, an OSError; after close() every use raises ValueError.
+    refresh() is called, and of a file that is replaced, as by `write`, the earlier one is still read. If it ends before
+    its last whole codestream did, or the first or the last 4096 bytes of these are others, RecordingChanged is raised,
+    an OSError. What is written over between goes unnoticed if it can be decoded, unless an index with sums is used. If
+    only the beginning of a further codestream is cut off, as `Writer` does with a torn one, nothing has changed. After
+    close() every use raises ValueError.
+
+    In a file that was changed, frames that are there as they were can still be read: those that were found by their
+    markers before, and those of an index with sums that wasn't changed itself. That is checked by sums. Where hundreds
+    of small frames were found at once some share a sum, and are read only if all of these are there. Any other frame
+    raises RecordingChanged.
 
     If the file is cut off, or damaged between codestreams, the frames before that can be read, and `fault` is the
     error; otherwise `fault` is None.
@@ -237,12 +253,13 @@ class Recording(Sequence):
         path: its file. index: its index's file, or True for PATH.index; by default none is used.
 
         Raises OSError if one can't be opened, or isn't a regular file, and WrongIndex if the index doesn't end with a
-        line of one; one that isn't complete, since the index is being written, is left aside.
+        line of one, or that has another number than it must have; one that isn't complete, since the index is being
+        written, is left aside.
         """
         self.path = Path(path)
         # The index first, so that the recording has what it lists.
         lines = None if index is None or index is False else Index(_index_name(path, index))
-        self._files: Optional[Tuple[Reading, Optional[Index]]] = (Reading(path), lines)
+        self._files: Optional[Tuple[Reading, Optional[Index]]] = (Reading(path, EOI), lines)
         self._found = _Found(0, [0]) if lines is None else _Found(lines.count, [lines.end])
         self._fault: Optional[JlsrecError] = None
         # Whether the fault is that the file ends within a codestream, and whether that may be one being written.
@@ -282,7 +299,8 @@ class Recording(Sequence):
         `fault`, but a frame that isn't there yet. An index is followed too, as far as it goes.
 
         Raises RecordingChanged if the file, or its index, has shrunk or was written over, and WrongIndex if a new line
-        isn't one or says otherwise than the recording. What was known before can then still be read, as far as it is there.
+        isn't one or says otherwise than the recording. Frames then keep their numbers, and those that are there as they
+        were can still be read, as the class says.
         """
         before = len(self)
         with self._lock:
@@ -306,13 +324,13 @@ class Recording(Sequence):
             with self._lock:
                 while self._is_before(frames, file):
                     self._step(file, frames - self._found.count)
-                if self._fault is not None or self._found.end == file.size or len(self._window.data) > 16 * WINDOW:
+                if self._fault is not None or self._found.end >= file.whole or len(self._window.data) > 16 * WINDOW:
                     self._window = _Window(self._found.end, b"")
         return file
 
     def _is_before(self, frames: int, file: Reading) -> bool:
         """Whether there may be codestreams that aren't found yet among the first frames and the next."""
-        return self._found.count < frames and self._fault is None and self._found.end < file.size
+        return self._found.count < frames and self._fault is None and self._found.end < file.whole
 
     def _step(self, file: Reading, most: int) -> None:
         """Finds where the next codestreams end, at most so many, or why there is none."""
@@ -322,28 +340,44 @@ class Recording(Sequence):
             window = _Window(start, b"")
         ends, status = window.extents(start, most)
         # What has no end within the window may have one behind it.
-        while not ends and status in (_library.OK, _library.TRUNCATED) and window.end < file.size:
+        while not ends and status in (_library.OK, _library.TRUNCATED) and window.end < file.whole:
             if start == window.start:
                 size = max(WINDOW, 2 * len(window.data))
             else:
                 size = max(WINDOW, (start - found.starts[max(number - 2, 0)]) * 5 // 4)
-            window = _Window(start, file.read(start, min(start + size, file.size)))
+            window = _Window(start, file.read(start, min(start + size, file.whole)))
             ends, status = window.extents(start, most)
         self._window = window
         if not ends:
-            self._torn, details = status == _library.TRUNCATED, _library.Fault()
-            if status != _library.TOO_LARGE:
-                status, details = _fault_of(window.data[start - window.start :])
-            self._fault = JlsrecError(status, details)
+            self._fail(file, start)
             return
         # A signal's handler may have come here meanwhile, and found the same.
-        found.starts[number : number + len(ends)] = ends
+        found.add(number, ends, window)
+
+    def _fail(self, file: Reading, start: int) -> None:
+        """Finds why no codestream is at the end of the last. A rest that was cut off, or gone on with, is no fault."""
+        data, ends, status = b"", [], _library.TRUNCATED
+        while not ends and status in (_library.OK, _library.TRUNCATED):
+            more = file.peek(start + len(data), min(start + max(WINDOW, 2 * len(data)), file.size))
+            if not more:
+                break
+            data += more
+            ends, status = _Window(start, data).extents(start, 1)
+        file.settle(start)
+        if data and not ends:
+            self._torn, details = status == _library.TRUNCATED, _library.Fault()
+            if status != _library.TOO_LARGE:
+                status, details = _fault_of(data)
+            self._fault = JlsrecError(status, details)
 
     @property
     def fault(self) -> Optional[JlsrecError]:
         """Why no more frames can be read after the last one; None if the file ends there."""
         file = self._walk()
-        found = self._found
+        with self._lock:
+            found = self._found
+            if self._fault is None and found.end < file.size:
+                self._fail(file, found.end)
         if self._fault is None and found.end > file.size:
             return WrongIndex(self._opened()[1].path, found.count - 1, "the recording ends before")
         return None if self._live and self._torn else self._fault
@@ -360,13 +394,13 @@ class Recording(Sequence):
             line = lines.line(index)
             if line.end > file.size:
                 raise line.wrong(f"the recording ends before: {line.end - line.start} bytes at {line.start}")
-            return _Place(file, line.start, line.end, line)
+            return _Place(file, line.start, line.end, line, None)
         self._walk(index + 1)
         found = self._found
         if index < found.first:
             return self._place(index)
         place = index - found.first
-        return _Place(file, *found.starts[place : place + 2], None) if index < found.count else None
+        return _Place(file, *found.starts[place : place + 2], None, found) if index < found.count else None
 
     def _span(self, index: int) -> "_Place":
         """Where the codestream of a frame is. Raises IndexError if there is no such frame."""
@@ -418,9 +452,11 @@ class Recording(Sequence):
         and by negative numbers from the end; by default all. They must be of one shape.
         out: the array that they are decoded into, of that shape, contiguous and writable: uint16, or uint8 where maxval is
         at most 255. Without it a new one is made, of the type of the first of them. It is what is returned.
-        workers: how many threads decode, 1 or more; no more than processors are worth while.
+        workers: how many threads decode, 1 or more; no more than processors are worth while. Small frames gain less:
+        there is at most one thread for each 4096 samples that a frame has.
 
-        Beside the array it takes the memory of one codestream for each worker.
+        Beside the array it takes the memory of one codestream for each worker, of the list of numbers unless that is a
+        slice or a range, and of where each frame is, some 100 bytes, if that wasn't known and no index says it.
 
         Raises IndexError if there is no frame of a number, TypeError for other arguments, and ValueError for an out that
         doesn't fit or no worker, or if there is no frame whose shape the array would have; then out is unchanged. If a
@@ -440,7 +476,8 @@ class Recording(Sequence):
             out = _fitting(out, (len(numbers), *header.shape), header.dtype)
         elif _array(out).shape[:1] != (0,):
             raise ValueError(f"out must have no frame, and is {out.shape}")
-        _Filling(self, numbers, out, max(1, min(workers, len(numbers)))).run()
+        worth = out.size // max(1, len(numbers)) // SAMPLES
+        _Filling(self, numbers, out, max(1, min(workers, worth, len(numbers)))).run()
         return out
 
     def _numbers(self, frames: Union[slice, Iterable[int], None]) -> Sequence[int]:
@@ -449,14 +486,26 @@ class Recording(Sequence):
             return range(len(self))
         if isinstance(frames, slice):
             return range(*frames.indices(len(self)))
-        given = [operator.index(number) for number in frames]
-        count = len(self) if min(given, default=0) < 0 else 0
-        numbers = [number if number >= 0 else number + count for number in given]
-        self._walk(max(numbers, default=-1) + 1)
-        for number, meant in zip(given, numbers):
-            if not 0 <= meant < self._found.count:
-                raise IndexError(f"no such frame: {number}")
-        return numbers
+        given = frames if isinstance(frames, range) else list(self._up_to_none(frames))
+        # The least and the greatest of a range are at its ends.
+        ends = (given[0], given[-1]) if isinstance(given, range) and given else given
+        least, most = min(ends, default=0), max(ends, default=-1)
+        self._walk(most + 1 if least >= 0 else sys.maxsize)
+        count = self._found.count
+        if least < -count or most >= count:
+            wrong = next(number for number in given if not -count <= number < count)
+            raise IndexError(f"no such frame: {wrong}")
+        if isinstance(given, range) and least >= 0:
+            return given
+        return [number if number >= 0 else number + count for number in given]
+
+    def _up_to_none(self, frames: Iterable[int]) -> Iterator[int]:
+        """The numbers of frames, up to the first that can't be one, since each frame has a byte at least."""
+        most = self._found.first + self._opened()[0].size
+        for number in map(operator.index, frames):
+            yield number
+            if not -most <= number < most:
+                return
 
     def _header_for(self, index: int) -> Header:
         """The header of a frame, whose number an error names."""
@@ -510,14 +559,14 @@ class Recording(Sequence):
         """The headers of the frames from one number to another, of those in an index as it has them."""
         same, header, text, window = None, None, None, _Window(0, b"")
         for number in range(first, end):
-            file, start, stop, line = self._span(number)
+            file, start, stop, line, _ = self._span(number)
             if line is not None:
                 if line.form != text:
                     text, header = line.form, _header_in(line.form)
             else:
                 if not window.start <= start <= min(stop, start + HEAD) <= window.end:
                     ahead = WINDOW if stop - start < HEAD else HEAD
-                    window = _Window(start, file.read(start, min(start + ahead, file.size)))
+                    window = _Window(start, file.read(start, min(start + ahead, file.whole)))
                 # Codestreams that begin with the same bytes up to their data have one header.
                 if same is None or not window.data.startswith(same, start - window.start):
                     header, same = self._header_for(number), None
@@ -538,24 +587,27 @@ class Recording(Sequence):
     def header(self, index: int) -> Header:
         """What a frame's codestream says of it. Raises IndexError if there is none, JlsrecError if it is malformed."""
         place = self._span(index)
-        file, start, end, _ = place
-        front = min(HEAD, end - start)
         try:
-            return place.header(file.read(start, start + front))
+            return place.header(place.file.read(place.start, min(place.start + HEAD, place.end)))
+        except RecordingChanged:
+            return place.header(place.read())
         except JlsrecError as error:
-            if error.status != _library.TRUNCATED or front == end - start:
+            if error.status != _library.TRUNCATED or place.end - place.start <= HEAD:
                 raise
-        return place.header(file.read(start, end))
+        return place.header(place.file.read(place.start, place.end))
 
 
 class _Found:
     """Where codestreams are that were found by their markers: those after the first, which an index has.
 
-    starts: where each begins, and where the last one ends. Only added to, and under the recording's lock.
+    starts: where each begins, and where the last one ends. runs: where runs of them begin, of one or of some small
+    ones, and where the last one ends; sums: the CRC-32 of each run. Only added to, and under the recording's lock.
     """
 
     def __init__(self, first: int, starts: list[int]) -> None:
         self.first, self.starts = first, starts
+        self.runs: list[int] = starts[-1:]
+        self.sums: list[int] = []
 
     @property
     def count(self) -> int:
@@ -567,25 +619,52 @@ class _Found:
         """Where the last of them ends."""
         return self.starts[-1]
 
+    def add(self, number: int, ends: list[int], window: "_Window") -> None:
+        """Adds codestreams that a window holds, by their ends; the first of these is put at this number in starts."""
+        start, each = self.starts[number - 1], max(1, len(ends) // RUNS)
+        runs = [*ends[each - 1 : -1 : each], ends[-1]]
+        place = bisect_right(self.runs, start)
+        # Who finds a start finds its run too.
+        self.sums[place - 1 : place - 1 + len(runs)] = window.sums([start, *runs])
+        self.runs[place : place + len(runs)] = runs
+        self.starts[number : number + len(ends)] = ends
+
+    def still_in(self, file: Reading, start: int, end: int) -> Optional[bytes]:
+        """The codestream that was found there, if the file has its run as it was, whatever else was changed."""
+        place = bisect_right(self.runs, start) - 1
+        first = self.runs[place]
+        data = file.peek(first, self.runs[place + 1])
+        return data[start - first : end - first] if zlib.crc32(data) == self.sums[place] else None
+
     def after(self, index: Index) -> "_Found":
         """Those of them that an index doesn't have which has grown. Raises WrongIndex if its last line says otherwise."""
         starts = self.starts[index.count - self.first :] or [index.end]
         if starts[0] != index.end or index.count > self.count and index.end <= self.end:
             raise WrongIndex(index.path, index.count - 1, f"it ends at {index.end}, where no codestream of its number does")
-        return _Found(index.count, starts)
+        found = _Found(index.count, starts)
+        if len(starts) > 1:
+            found.runs, found.sums = self.runs, self.sums
+        return found
 
 
 class _Place(NamedTuple):
-    """Where a codestream begins and ends in a file, and its line, if it is known by an index."""
+    """Where a codestream begins and ends in a file, and its line in an index, or those it was found with by markers."""
 
     file: Reading
     start: int
     end: int
     line: Optional[Line]
+    found: Optional[_Found]
 
     def read(self) -> bytes:
-        """The codestream. Raises WrongIndex if it isn't the line's."""
-        data = self.file.read(self.start, self.end)
+        """The codestream. Raises WrongIndex if it isn't the line's, and RecordingChanged if the file was changed, unless
+        the codestream is there as it was."""
+        try:
+            data = self.file.read(self.start, self.end)
+        except RecordingChanged:
+            data = self._still()
+            if data is None:
+                raise
         if self.line is not None:
             self.line.check_sum(data)
             if _Window(0, data).extents(0, 1)[0] != [len(data)]:
@@ -593,9 +672,23 @@ class _Place(NamedTuple):
             self.header(data)
         return data
 
+    def _still(self) -> Optional[bytes]:
+        """The codestream in a file that was changed, if its sum is what it was."""
+        if self.line is None:
+            return self.found.still_in(self.file, self.start, self.end)
+        data = self.file.peek(self.start, self.end)
+        return data if self.line.has_sum_of(data) else None
+
     def header(self, data: bytes) -> Header:
         """What data says, which is the codestream or its front. Raises WrongIndex if it isn't what the line says."""
-        form = _form(data)
+        try:
+            form = _form(data)
+        except JlsrecError as error:
+            is_front = error.status == _library.TRUNCATED and len(data) < self.end - self.start
+            if self.line is None or is_front:
+                raise
+            text = f"no codestream is there of {self.end - self.start} bytes at {self.start}: {error}"
+            raise self.line.wrong(text) from None
         if self.line is not None:
             self.line.check_form(form, data)
         return _header_of(form)
@@ -684,6 +777,11 @@ class _Window:
             ctypes.byref(fault),
         )
         return list(itertools.accumulate(sizes[: count.value].tolist(), initial=start))[1:], status
+
+    def sums(self, places: list[int]) -> Iterator[int]:
+        """The CRC-32 of the bytes from each place to the next."""
+        places = [place - self.start for place in places]
+        return map(zlib.crc32, map(self.data.__getitem__, map(slice, places, places[1:])))
 
 
 def write(
@@ -950,7 +1048,9 @@ def _check_rest(film: Recording, repair: bool) -> None:
     Torn is what a process that is killed leaves, or a machine that fails: the front of a codestream, and zeros behind it.
     It is none if another codestream may stand in it, as after damage to a segment's length.
     """
-    file, start = film._walk(), film._found.end
+    file, start, fault = film._walk(), film._found.end, film.fault
+    if fault is None:
+        raise file.written_over()
     end = _end_before_zeros(file, start)
     if end == start:
         is_torn = len(film) > 0
@@ -962,7 +1062,7 @@ def _check_rest(film: Recording, repair: bool) -> None:
         is_torn = False
     if is_torn and repair:
         return
-    error = film.fault.of_frame(len(film))
+    error = fault.of_frame(len(film))
     offer = f": {file.size - start} bytes at {start}, which were torn; repair=True cuts them off" if is_torn else ""
     error.args = (f"{film.path}: {error}{offer}",)
     raise error

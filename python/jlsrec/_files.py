@@ -9,7 +9,7 @@ import itertools
 import os
 import stat
 from collections.abc import Iterator
-from typing import Optional, Union
+from typing import NamedTuple, Optional, Union
 
 Name = Union[str, os.PathLike]
 
@@ -19,30 +19,43 @@ LACKING = {
 }
 # A read by the system takes less than 2^31 bytes.
 READ = 1 << 30
-EDGE = 4096
+# How much is compared of what was whole of a file, at each end, and how far from its end a mark is looked for.
+EDGE = 1 << 12
+FAR = 1 << 26
 
 
 class RecordingChanged(OSError):
     """A recording that isn't what it was when it was opened: its file has shrunk, or was written over."""
 
 
+class _Seen(NamedTuple):
+    """What is seen of a file: its size, where its last whole part ends, and the first and the last bytes before."""
+
+    size: int
+    whole: int
+    edges: tuple[bytes, bytes]
+
+
 class Reading:
     """A file that is read at any place, as it was when it was opened.
 
-    What is appended later isn't seen until refresh. The file is closed once nobody uses it, so that no thread reads from
-    another file that got its number.
+    What is appended later isn't seen until refresh. What stands after the last whole part may be a part that is being
+    written, or was torn, and be cut off: that isn't a change. The file is closed once nobody uses it, so that no thread
+    reads from another file that got its number.
     """
 
-    def __init__(self, path: Name) -> None:
-        """Opens a file. Raises OSError if it can't be opened, or can't be read at any place, as a pipe."""
+    def __init__(self, path: Name, mark: bytes) -> None:
+        """Opens a file, each part of which ends with a mark. Raises OSError if it can't be opened, or can't be read at
+        any place, as a pipe."""
         self._number = -1
         self.path = os.fsdecode(path)
+        self._mark = mark
         with naming(self.path):
             check_regular(path)
             self._number = os.open(path, os.O_RDONLY | os.O_CLOEXEC)
         opened = os.fstat(self._number)
-        # How much is seen of it, and what stands there first and last: set together, since threads read meanwhile.
-        self._seen = opened.st_size, self._read_edges(opened.st_size)
+        # Set as one, since threads read meanwhile.
+        self._seen = self._see(opened.st_size, 0)
         self._changed = opened.st_ctime_ns
 
     def __del__(self) -> None:
@@ -52,54 +65,85 @@ class Reading:
     @property
     def size(self) -> int:
         """How many bytes are seen of it."""
-        return self._seen[0]
+        return self._seen.size
+
+    @property
+    def whole(self) -> int:
+        """How many of these are of whole parts, as far as their marks say."""
+        return self._seen.whole
 
     def is_of(self, made: os.stat_result) -> bool:
         """Whether this is the file that was found so."""
         return os.path.samestat(os.fstat(self._number), made)
 
     def refresh(self) -> None:
-        """Sees what was appended since. Raises RecordingChanged if what was seen of it isn't as it was."""
-        now = os.fstat(self._number)
-        self._look(now)
-        self._seen = now.st_size, self._read_edges(now.st_size)
+        """Sees what was appended since. Raises RecordingChanged if what was whole of it isn't as it was."""
+        seen = self._seen
+        # What stood there before is compared after what is new was read, which is of the same file then.
+        new = self._see(os.fstat(self._number).st_size, seen.whole)
+        self._look(os.fstat(self._number), seen)
+        self._seen = new
+
+    def settle(self, end: int) -> None:
+        """Takes no more than so many bytes as whole, whatever their marks say. Raises RecordingChanged as read does."""
+        seen = self._seen
+        if end < seen.whole:
+            new = _Seen(seen.size, end, self._read_edges(end))
+            self._look(os.fstat(self._number), seen)
+            self._seen = new
 
     def read(self, start: int, end: int) -> bytes:
         """The bytes from start to end, both within its size. Raises RecordingChanged if the file isn't as it was."""
-        data = os.pread(self._number, min(end - start, READ), start)
-        if len(data) < end - start:
-            data = self._read_on(data, start, end)
+        # What was seen before the file is looked at, since another thread may refresh meanwhile.
+        seen = self._seen
+        data = self.peek(start, end)
         # The time goes by with each change, also with one that only adds to the file: then its edges are as they were.
         now = os.fstat(self._number)
-        if now.st_size < self.size or now.st_ctime_ns != self._changed:
-            self._look(now)
+        if now.st_size < seen.whole or now.st_ctime_ns != self._changed:
+            self._look(now, seen)
+        if len(data) < end - start:
+            raise RecordingChanged(errno.ESTALE, "it has no more bytes, where it had some", self.path)
         return data
 
-    def _read_on(self, data: bytes, start: int, end: int) -> bytes:
-        parts, start = [data], start + len(data)
+    def peek(self, start: int, end: int) -> bytes:
+        """The bytes from start to end as they are now, or as many as there are."""
+        parts = []
         while start < end:
             data = os.pread(self._number, min(end - start, READ), start)
             if not data:
-                self._look(os.fstat(self._number))
-                raise RecordingChanged(errno.ESTALE, "it has no more bytes, where it had some", self.path)
+                break
             parts.append(data)
             start += len(data)
         return b"".join(parts)
 
-    def _look(self, now: os.stat_result) -> None:
-        """Looks at a file that was changed."""
-        size, edges = self._seen
-        if now.st_size < size:
+    def _look(self, now: os.stat_result, seen: _Seen) -> None:
+        """Looks at a file that was changed since that was seen."""
+        if now.st_size < seen.whole:
             raise RecordingChanged(
-                errno.ESTALE, f"it has shrunk from {size} to {now.st_size} bytes since it was opened", self.path
+                errno.ESTALE, f"it has shrunk from {seen.size} to {now.st_size} bytes since it was opened", self.path
             )
-        if self._read_edges(size) != edges:
+        if self._read_edges(seen.whole) != seen.edges:
             raise self.written_over()
         self._changed = now.st_ctime_ns
 
     def written_over(self) -> RecordingChanged:
         """The error of a file that holds other bytes than it did."""
         return RecordingChanged(errno.ESTALE, "it was written over since it was opened", self.path)
+
+    def _see(self, size: int, whole: int) -> _Seen:
+        """What is seen of so many bytes, of which the first are known to be whole."""
+        whole = self._end_of_whole(size, whole)
+        return _Seen(size, whole, self._read_edges(whole))
+
+    def _end_of_whole(self, size: int, whole: int) -> int:
+        """Where the last mark ends in so many bytes, the first of which are whole; their own end if it is far off."""
+        start, step = size, EDGE
+        while start > whole and size - start < FAR:
+            end, start, step = start + len(self._mark) - 1, max(whole, start - step), 2 * step
+            place = self.peek(start, min(end, size)).rfind(self._mark)
+            if place >= 0:
+                return start + place + len(self._mark)
+        return whole if start <= whole else size
 
     def _read_edges(self, size: int) -> tuple[bytes, bytes]:
         """The first and the last of so many bytes."""

@@ -19,6 +19,8 @@ _BEGUN = re.compile(rb"[0-9a-z ]{0,255}")
 
 # How much of an index is read at a time; a line has fewer bytes than a quarter of it.
 _BLOCK = 1 << 14
+# No line has fewer bytes.
+_LEAST = len(b"0 0 0 gray 0 0 0 0 0 0 0 0\n")
 
 # The markers of T.87 Annex C that stand before the data of the first scan, and what fills up before a marker.
 _SOF55, _SOS, _FILL = 0xF7, 0xDA, 0xFF
@@ -62,9 +64,13 @@ class Line(NamedTuple):
         if found != self.form:
             raise self.wrong(f"the codestream there is {found.decode()}, and not {self.form.decode()}")
 
+    def has_sum_of(self, data: bytes) -> bool:
+        """Whether the line has a sum, and it is that of data."""
+        return hashlib.sha256(data).hexdigest().encode() == self.sum
+
     def check_sum(self, data: bytes) -> None:
         """Raises WrongIndex if the line has a sum, and it isn't that of data."""
-        if self.sum is not None and hashlib.sha256(data).hexdigest().encode() != self.sum:
+        if self.sum is not None and not self.has_sum_of(data):
             raise self.wrong(f"other bytes are there: {self.end - self.start} bytes at {self.start}")
 
 
@@ -85,7 +91,7 @@ class Index:
 
     def __init__(self, path: Name) -> None:
         """Opens an index. Raises OSError if it can't be opened, WrongIndex if it doesn't end as one."""
-        self._file = Reading(path)
+        self._file = Reading(path, b"\n")
         self.path = self._file.path
         # How many lines there are, where the codestream of the last one ends, and where the line itself does.
         self.count = self.end = self.size = 0
@@ -112,19 +118,28 @@ class Index:
 
     def _look(self) -> None:
         """Finds the last complete line."""
-        size = self._file.size
-        data = self._file.read(max(self.size, size - _BLOCK), size)
-        stop = data.rfind(b"\n") + 1
-        if not _BEGUN.fullmatch(data, stop):
-            raise self._wrong(self._number_at(size - len(data) + stop))
-        if stop == 0:
+        file, whole = self._file, self._file.whole
+        start = max(self.size, whole - _BLOCK)
+        *lines, begun = file.read(start, whole).split(b"\n")
+        size = whole - len(begun)
+        begun += file.peek(whole, min(whole + _BLOCK, file.size)).partition(b"\n")[0]
+        if not _BEGUN.fullmatch(begun):
+            raise self._wrong(self._number_at(size))
+        if not lines:
             return
-        begin = data.rfind(b"\n", 0, stop - 1) + 1
-        found = _LINE.fullmatch(data, begin, stop - 1)
-        if found is None or int(found[1]) < self.count or int(found[2]) < self.end:
-            raise self._wrong(self._number_at(size - len(data) + begin))
+        found = _LINE.fullmatch(lines[-1])
+        if found is None or not self._may_end(lines, start, int(found[1])) or int(found[2]) < self.end:
+            raise self._wrong(self._number_at(size - len(lines[-1]) - 1))
         self.count, self.end = int(found[1]) + 1, int(found[2]) + int(found[3])
-        self.size, self.has_sums = size - len(data) + stop, found[5] is not None
+        self.size, self.has_sums = size, found[5] is not None
+
+    def _may_end(self, lines: list[bytes], start: int, number: int) -> bool:
+        """Whether the last of these lines, which begin at a place, may have this number."""
+        if start == self.size:
+            return number == self.count + len(lines) - 1
+        # The first may lack its front.
+        head = re.match(_NUMBER + b" ", lines[1]) if len(lines) > 1 else None
+        return head is not None and int(head[1]) + len(lines) - 2 == number < (start + _BLOCK) // _LEAST
 
     def _number_at(self, place: int) -> int:
         """How many lines end before a place."""
@@ -166,9 +181,11 @@ class Index:
 
     def _at(self, number: int) -> _Page:
         """Lines among which one of this number is, kept for the next ones."""
-        if not 0 <= number - self._page.first < len(self._page.lines):
-            self._page = self._page_of(number)
-        return self._page
+        # Threads take lines side by side, and each keeps its own.
+        page = self._page
+        if not 0 <= number - page.first < len(page.lines):
+            page = self._page = self._page_of(number)
+        return page
 
     def _page_of(self, number: int) -> _Page:
         """Lines among which one of this number is, found by where it would be if all lines were equally long."""

@@ -2,8 +2,10 @@
 
 from __future__ import annotations
 
+import itertools
 import os
 import re
+import resource
 import subprocess
 import sys
 import threading
@@ -28,6 +30,14 @@ def frames_of(count: int, seed: int, shape: tuple[int, ...] = (6, 8)) -> list[np
 def run(*words: str) -> bytes:
     """What the program writes to standard output."""
     return subprocess.run([program, *words], stdout=subprocess.PIPE, check=True).stdout
+
+
+limits = resource.getrlimit(resource.RLIMIT_AS)
+
+
+def memory() -> int:
+    """How many bytes of address space this process has."""
+    return int(Path("/proc/self/statm").read_text().split()[0]) * resource.getpagesize()
 
 
 def same(got, want) -> bool:
@@ -165,9 +175,24 @@ OTHER = [
     ("an empty one", lines, b"", [*range(10), 699], "the recording ends before"),
     ("other bytes", bare, bytes(len(whole)), [*range(10), 699], "no codestream"),
     ("one of another film", lines, b"".join(reversed(codestreams)), [*range(10), 699], "line 0 of by.jls.index"),
+    ("the same without its sums", bare, b"".join(reversed(codestreams)), [*range(10), 699], "line 0 of by.jls.index"),
 ]
 for name, index, recording, refused, text in OTHER:
     film = film_by(index, recording)
+    for k in [*range(10), 699]:
+        # What begins there may have the form that the line says: then its header is right.
+        for use in (film.header, lambda number: film.read([number])):
+            try:
+                got = use(k)
+            except jlsrec.WrongIndex as error:
+                held = k in refused and str(error).startswith(f"frame {k}: line ")
+                case(f"{name}: header and read of {k}: {error}", held)
+            except Exception as error:
+                case(f"{name}: header and read of {k}: {type(error).__name__}: {error}", False)
+            else:
+                want = jlsrec.read_header(codestreams[k])
+                held = got == want if use == film.header else np.array_equal(got[0], arrays[k])
+                case(f"{name}: header and read of {k}", held)
     for use in (film.__getitem__, film.data):
         wrong = []
         for k in [*range(10), 699]:
@@ -206,6 +231,21 @@ for name, index, line in (
     error = refuses(f"{name} as an index", jlsrec.WrongIndex, "not of an index", film_by, index)
     case(f"{name}: {error}", line is None or error.line == line)
 
+# A last line of another number, or some lines: that is seen at once.
+for name, index in (("with sums", lines), ("without sums", bare)):
+    for number in (9223372036854775807, 9999999999999999999, 100000, 701, 700, 698, 42, 0):
+        wrong = [*index[:-1], b"%d " % number + index[-1].split(b" ", 1)[1]]
+        error = refuses(f"{name}: a last line {number}", jlsrec.WrongIndex, "line 699 of by.jls.index", film_by, wrong)
+        case(f"{name}: a last line {number}: its number", error is not None and error.line == 699)
+    for count in (2, 300, 700):
+        wrong = [b"%d " % (9000000 + k) + each.split(b" ", 1)[1] for k, each in enumerate(index[-count:])]
+        wrong = [*index[: 700 - count], *wrong]
+        refuses(f"{name}: {count} last lines of great numbers", jlsrec.WrongIndex, "line 699", film_by, wrong)
+    wrong = b"%d " % (2**63 - 1) + index[1].split(b" ", 1)[1]
+    refuses(f"{name}: two lines", jlsrec.WrongIndex, "line 1 of by.jls.index", film_by, [index[0], wrong])
+    wrong = b"1000 " + index[0].split(b" ", 1)[1]
+    refuses(f"{name}: a line alone", jlsrec.WrongIndex, "line 0 of by.jls.index", film_by, [wrong])
+
 # Many lines, so that a line has to be looked for.
 count = 60000
 Path("many.jls").write_bytes(codestreams[0] * count)
@@ -224,6 +264,29 @@ for k in (0, 29999, count - 1):
         held = len(many) == count and (many[k] == arrays[0]).all()
     case(f"opened, counted and read frame {k} by {sum(taken)} bytes", held and sum(taken) < 150000)
 os.pread = real
+# Threads that take lines side by side, as if each line of code were followed by another thread's.
+many = jlsrec.Recording("many.jls", index=True)
+index = many._opened()[1]
+pages = [index._page_of(k) for k in (0, 30000, 59999)]
+asked = (0, 1, 15000, 30000, 45000, count - 1)
+
+
+def beside(frame, event: str, _):
+    """Lets another thread take its page."""
+    if event == "line":
+        index._page = pages.pop(0)
+        pages.append(index._page)
+    return beside
+
+
+sys.settrace(lambda frame, event, _: beside if frame.f_code is type(index)._at.__code__ else None)
+try:
+    got = [many._place(k)[1:3] for k in asked]
+except (IndexError, jlsrec.WrongIndex) as error:
+    got = error
+finally:
+    sys.settrace(None)
+case(f"lines by two threads: {got}", got == [(k * size, k * size + size) for k in asked])
 many = jlsrec.Recording("many.jls", index=True)
 case("and how many", len(many) == count and len(jlsrec.Recording("many.jls")) == count)
 
@@ -314,7 +377,7 @@ for name, added, line in (
     ("a line before", lines[3], 11),
     ("a line of another recording", b"11 9999 77 " + form, 11),
     ("a line that ends within a known codestream", b"11 %d 77 " % places[11] + form, 11),
-    ("a number far ahead", b"900 %d 77 " % places[11] + form, 900),
+    ("a number far ahead", b"900 %d 77 " % places[11] + form, 11),
 ):
     Path("by.jls").write_bytes(whole)
     Path("by.jls.index").write_bytes(b"".join(lines[:11]))
@@ -378,6 +441,8 @@ case("also of gray frames 3 wide", jlsrec.write("thin.jls", made("alike.jls", th
 
 # ---- many frames at once
 
+# Small frames by several threads too.
+usual, jlsrec.SAMPLES = jlsrec.SAMPLES, 1
 stack = np.stack(gray)
 for index in (False, True):
     film = made("stack.jls", gray, [4095] * 300, index)
@@ -483,6 +548,45 @@ for workers in (1, 4):
     refuses(f"another size, {workers} workers", ValueError, text, film.read, slice(1, None), None, workers)
     refuses(f"another type, {workers} workers", ValueError, "frame 1 is (6, 8) of uint16, where", film.read, None, None, workers)
 refuses("a malformed first header", jlsrec.JlsrecError, "frame 1: ", jlsrec.Recording("malformed.jls").read, [1, 0])
+
+jlsrec.SAMPLES = usual
+begun: list[threading.Thread] = []
+real_start = threading.Thread.start
+threading.Thread.start = lambda thread: begun.append(thread) or real_start(thread)
+for shape, most in (((16, 16), 1), ((64, 64), 1), ((96, 96), 2), ((256, 256), 9), ((64, 64, 3), 3)):
+    frames = frames_of(12, 7, shape)
+    film = made("sized.jls", frames, [8191] * 12)
+    for workers in (1, 2, 4, 9):
+        begun.clear()
+        held = np.array_equal(film.read(workers=workers), np.stack(frames))
+        case(f"frames {shape} by {len(begun) + 1} of {workers} workers", held and len(begun) + 1 == min(workers, most))
+threading.Thread.start = real_start
+
+# Numbers that there aren't are found at once: not all of them are looked at, or kept.
+film = made("stack.jls", gray, [4095] * 300)
+known = jlsrec.Recording("stack.jls")
+case("counted", len(known) == 300)
+for recording in (film, known, film_by(lines[:300], b"".join(codestreams[:300]))):
+    for frames, first in (
+        (range(10**20), 300),
+        (range(10**20, -1, -1), 10**20),
+        (range(299, -(10**20), -1), -301),
+        (range(-(10**20), 300), -(10**20)),
+        (range(7, 10**9, 100), 307),
+        (range(-301, 0), -301),
+        (range(300, 301), 300),
+        (itertools.count(), 300),
+        (itertools.count(-1, -1), -301),
+        (itertools.count(10**20), 10**20),
+    ):
+        # No more memory than a process that reads all frames may have.
+        resource.setrlimit(resource.RLIMIT_AS, (memory() + (1 << 29), limits[1]))
+        try:
+            refuses(f"read: {frames}", IndexError, f"no such frame: {first}", recording.read, frames)
+        finally:
+            resource.setrlimit(resource.RLIMIT_AS, limits)
+    for words in ((300,), (3, 90, 7), (299, -1, -1), (-300, 300), (-1, -301, -1), (2, -3, -1), (5, 5)):
+        case(f"read: {words}", np.array_equal(recording.read(range(*words)), stack[list(range(*words))]))
 
 # ---- a recording that is written frame by frame
 

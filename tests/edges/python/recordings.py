@@ -21,6 +21,7 @@ import numpy as np
 
 import jlsrec
 from cases import case, end, refuses
+from jlsrec import _files
 
 
 def frames_of(count: int, seed: int, shape: tuple[int, ...] = (6, 8)) -> list[np.ndarray]:
@@ -149,6 +150,7 @@ uses += [lambda: list(film), lambda: film[-1], lambda: film[25:]]
 for use in uses:
     try:
         use()
+        print("there")
     except OSError as error:
         print(type(error).__name__, error.filename, "shrunk" in str(error))
 """
@@ -157,7 +159,10 @@ for found in ("found", "unknown"):
         Path("shrinks.jls").write_bytes(whole)
         done = alone(shrunk, "shrinks.jls", found, str(left))
         said = (done.returncode, done.stdout.splitlines())
-        case(f"shrunk to {left}, {found}: {said}", said == (0, ["RecordingChanged shrinks.jls True"] * 6))
+        # Frame 30 is there as long as only the last byte is lost.
+        there = 3 if left > 100 else 0
+        want = ["there"] * there + ["RecordingChanged shrinks.jls True"] * (6 - there)
+        case(f"shrunk to {left}, {found}: {said}", said == (0, want))
 
 others = frames_of(90, 3)
 Path("over.jls").write_bytes(whole)
@@ -184,6 +189,220 @@ for name, each in {"one that was counted": film, "one that wasn't": late}.items(
     case(f"{name} has its frames", same(each, frames[:25]) and len(each) == 25)
     case(f"{name} has its fault", each.fault is not None and "truncated" in str(each.fault))
 case("one that is opened now has all", same(jlsrec.Recording("grows.jls"), frames))
+
+
+def listed(count: int, arrays: list[np.ndarray], sums: bool = True) -> bytes:
+    """The index of the first of some frames, with their sums or without."""
+    with jlsrec.Writer("listed.jls", 4095, index=True) as writer:
+        for array in arrays[:count]:
+            writer.append(array)
+    index = Path("listed.jls.index").read_bytes().splitlines()
+    for each in ("listed.jls", "listed.jls.index"):
+        os.unlink(each)
+    return b"".join((line if sums else line.rpartition(b" ")[0]) + b"\n" for line in index)
+
+
+# Another thread refreshes between a read and the look at the file's size.
+ends = [len(joined(frames[:k])) for k in range(41)]
+real_fstat = os.fstat
+
+
+def grown(number: int) -> os.stat_result:
+    """The file as it is, and then appended to and refreshed."""
+    now, os.fstat = real_fstat(number), real_fstat
+    with open("between.jls", "ab") as file:
+        file.write(whole[ends[20] : ends[22]])
+    thread = threading.Thread(target=film.refresh)
+    thread.start()
+    thread.join()
+    return now
+
+
+Path("between.jls.index").write_bytes(listed(20, frames, False))
+for index in (False, True):
+    Path("between.jls").write_bytes(whole[: ends[20]])
+    film = jlsrec.Recording("between.jls", index)
+    case(f"index={index}: before another thread refreshes", len(film) == 20)
+    time.sleep(0.02)
+    place = film._place(19)
+    os.fstat = grown
+    try:
+        got = place.file.read(place.start, place.end)
+    except OSError as error:
+        got = error
+    finally:
+        os.fstat = real_fstat
+    case(f"index={index}: refreshed by another thread: {got}", got == whole[ends[19] : ends[20]] and len(film) == 22)
+
+# A torn codestream that is cut off, and others in its place, are no change of what is known.
+far = getattr(_files, "FAR", 0)
+drawn = frames_of(40, 6, (60, 80))
+codestreams = [jlsrec.encode(frame, 4095) for frame in drawn]
+# An end's marker in a comment ends nothing, which is known once the frames are counted.
+commented = codestreams[11][:2] + b"\xff\xfe\0\6\xff\xd9\xff\xd9" + codestreams[11][2:]
+known = ("counted", "refreshed", "far")
+every = ("not counted", *known, "continued while it is read")
+torn = [(codestreams[11][:cut], every) for cut in (1, 2, 3, 30, 5000)]
+for front, names in (*torn, (commented[:60], known), (commented[:5000], known)):
+    for index in (False, True):
+        for name in names if not index else [name for name in names if name != "far"]:
+            by = f"{len(front)} bytes torn, index={index}, {name}"
+            for each in Path(".").glob("torn.jls*"):
+                each.unlink()
+            with jlsrec.Writer("torn.jls", 4095, index=index) as writer:
+                for frame in drawn[:11]:
+                    writer.append(frame)
+            early = jlsrec.Recording("torn.jls", index)
+            with open("torn.jls", "ab") as file:
+                file.write(front)
+            if index:
+                with open("torn.jls.index", "ab") as file:
+                    file.write(b"11 45757 1")
+            # As if the codestream that is torn were too long to look for the last one's end.
+            _files.FAR = 0 if name == "far" else far
+            film = early if name == "refreshed" else jlsrec.Recording("torn.jls", index)
+            _files.FAR = far
+            if name == "refreshed":
+                case(f"{by}: it isn't there", film.refresh() == 0 and len(film) == 11)
+            elif name in known:
+                case(f"{by}: {film.fault}", len(film) == 11 and film.fault is not None)
+            try:
+                with jlsrec.Writer("torn.jls", 4095, index=index, append=True, repair=True) as writer:
+                    if name == "continued while it is read":
+                        got = np.array_equal(film[10], drawn[10])
+                        case(f"{by}: cut off", got and len(film) == 11 and film.fault is None)
+                    for frame in drawn[20:25]:
+                        writer.append(frame)
+                film[3], film.refresh(), film[3]
+            except OSError as error:
+                case(f"{by}: {error}", False)
+                continue
+            case(f"{by}: followed", same(film, drawn[:11] + drawn[20:25]) and film.fault is None)
+            case(f"{by}: by an earlier one", early.refresh() in (0, 5) and same(early, film))
+            film.refresh()
+            case(f"{by}: no more", len(film) == 16)
+Path("torn.jls").write_bytes(b"".join(codestreams[:11]) + codestreams[11][:5000])
+film = jlsrec.Recording("torn.jls")
+case("not gone on with yet", film[10].shape == (60, 80))
+with jlsrec.Writer("torn.jls", 4095, append=True, repair=True) as writer:
+    for frame in frames_of(40, 7):
+        writer.append(frame)
+try:
+    case(f"gone on with by small frames: {len(film)}, {film.fault}", len(film) == 11 and film.fault is None)
+except OSError as error:
+    case(f"gone on with by small frames: {error}", False)
+
+# A writer whose disk is full, and that goes on, has its followers.
+real_write, real_ftruncate = os.write, os.ftruncate
+for k, torn in enumerate((1, 40, 5000)):
+    for truncates in (True, False):
+        name = f"full{k}{truncates}.jls"
+        writer = jlsrec.Writer(name, 4095)
+        writer.append(drawn[0])
+        film = jlsrec.Recording(name)
+
+        def partly(number: int, data: bytes) -> int:
+            """Writes the front; it is looked at, and then the disk is full."""
+            real_write(number, data[: min(torn, len(data) - 1)])
+            film.refresh()
+            raise OSError(errno.ENOSPC, "No space left on device")
+
+        def failing_to_cut(*words) -> None:
+            """As a disk that is at fault answers."""
+            raise OSError(errno.EIO, "Input/output error")
+
+        for turn in (1, 2):
+            os.write, os.ftruncate = partly, real_ftruncate if truncates else failing_to_cut
+            refuses(f"{name}: full", OSError, name, writer.append, drawn[30])
+            os.write, os.ftruncate = real_write, real_ftruncate
+            writer.append(drawn[turn])
+            try:
+                case(f"{name}: followed", film.refresh() == 1 and same(film, drawn[: turn + 1]) and film.fault is None)
+            except OSError as error:
+                case(f"{name}: {error}", False)
+        writer.close()
+
+# Of a recording that has shrunk, or was written over, what is there as it was can be read, and nothing else.
+flat = [np.full((16, 16), value, np.uint16) for value in range(2000, 4000)]
+coded = [jlsrec.encode(frame, 4095) for frame in flat]
+size = len(coded[1000])
+flat, coded = zip(*[pair for pair in zip(flat, coded) if len(pair[1]) == size][:1000])
+case(f"{len(flat)} flat frames of {size} bytes", len(flat) == len(set(coded)) == 1000)
+
+
+def seen(film: jlsrec.Recording, number: int) -> str:
+    """Whether a frame, its codestream and its header are as they were, or which error is raised."""
+    try:
+        array, data, header = film[number], film.data(number), film.header(number)
+    except (OSError, ValueError) as error:
+        return type(error).__name__
+    held = np.array_equal(array, CHANGED[number]) and data == CODED[number] and header == jlsrec.read_header(data)
+    return "there" if held else "other"
+
+
+for kind, CHANGED, CODED in (("noise", drawn, codestreams), ("flat", flat[:40], coded[:40])):
+    first = [sum(map(len, CODED[:k])) for k in range(41)]
+    data = b"".join(CODED[:20])
+    for name, changed, there in (
+        ("cut between frames", data[: first[10]], range(10)),
+        ("cut within one", data[: first[10] + 20], range(10)),
+        ("cut to one", data[: first[1]], range(1)),
+        ("emptied", b"", range(0)),
+        ("cut and gone on with", data[: first[10]] + b"".join(CODED[22:26]), range(10)),
+        ("cut and gone on with for long", data[: first[10]] + b"".join(CODED[20:40]), range(10)),
+        ("the last one replaced", data[: first[19]] + CODED[25], range(19)),
+        ("the first one replaced", CODED[25] + data[first[1] :], range(1, 20) if kind == "flat" else range(0)),
+        ("replaced by others, fewer", b"".join(CODED[20:35]), range(0)),
+        ("replaced by others, more", b"".join(CODED[20:40]), range(0)),
+    ):
+        for refreshed in (False, True):
+            Path("lost.jls").write_bytes(data)
+            film = jlsrec.Recording("lost.jls")
+            case(f"{kind}: {name}: counted", len(film) == 20)
+            time.sleep(0.02)
+            Path("lost.jls").write_bytes(changed)
+            if refreshed:
+                for _ in range(2):
+                    refuses(f"{kind}: {name}: refreshed", jlsrec.RecordingChanged, "lost.jls", film.refresh)
+            got = [seen(film, number) for number in range(20)]
+            want = ["there" if number in there else "RecordingChanged" for number in range(20)]
+            case(f"{kind}: {name}, refreshed={refreshed}: {got}", got == want and len(film) == 20)
+
+# By an index these have its sums.
+for name, sums in (("sums", True), ("no sums", False)):
+    Path("lost.jls").write_bytes(b"".join(codestreams[:20]))
+    Path("lost.jls.index").write_bytes(listed(20, drawn, sums))
+    CHANGED, CODED = drawn, codestreams
+    film = jlsrec.Recording("lost.jls", index=True)
+    case(f"{name}: before", seen(film, 9) == "there")
+    time.sleep(0.02)
+    Path("lost.jls").write_bytes(b"".join(codestreams[:10]) + b"".join(codestreams[22:25]))
+    refuses(f"{name}: refreshed", jlsrec.RecordingChanged, "lost.jls", film.refresh)
+    got = [seen(film, number) for number in range(20)]
+    case(f"{name}: {got}", got == ["there" if number < 10 and sums else "RecordingChanged" for number in range(20)])
+
+# Those that were found by their markers, and that an index without sums has by now in part.
+Path("lost.jls").write_bytes(b"".join(codestreams[:20]))
+Path("lost.jls.index").write_bytes(listed(4, drawn, False))
+film = jlsrec.Recording("lost.jls", index=True)
+case("an index of some: before", len(film) == 20)
+Path("lost.jls.index").write_bytes(listed(8, drawn, False))
+case("an index of more", film.refresh() == 0 and len(film) == 20)
+time.sleep(0.02)
+os.truncate("lost.jls", sum(map(len, codestreams[:15])))
+got = [seen(film, number) for number in range(20)]
+case(f"an index of some: {got}", got == ["there" if 8 <= number < 15 else "RecordingChanged" for number in range(20)])
+
+# Of many small ones at once some have a sum together, so a few before the cut may be lost, and none is another one.
+Path("small.jls").write_bytes(b"".join(coded))
+film = jlsrec.Recording("small.jls")
+case("1000 small ones", len(film) == 1000)
+time.sleep(0.02)
+Path("small.jls").write_bytes(b"".join(coded[:500] + coded[600:700]))
+CHANGED, CODED = flat, coded
+got = [seen(film, number) for number in range(1000)]
+case("small ones before the cut", got[:490] == ["there"] * 490 and set(got[490:500]) <= {"there", "RecordingChanged"})
+case("small ones after the cut", got[500:] == ["RecordingChanged"] * 500)
 
 # ---- what a file is, and how much of it is read
 
