@@ -90,7 +90,8 @@ def ended(case, process, wanted, frames, stopped=""):
 
 
 def by_seconds():
-    """A camera that sends a frame each 0.1 s, and then pauses for longer than a piece lasts."""
+    """A camera that sends a frame each 0.1 s, and then pauses for longer than a piece lasts: a piece has the frames that came within
+    a second of its first one, and what comes after a pause begins another."""
     fresh("by_seconds")
     process = record("--pieces", "1s", "--index", "--times")
     frames = [image(number) for number in range(32)]
@@ -100,17 +101,19 @@ def by_seconds():
             time.sleep(2.5 if number == 25 else 0.1)
     ended("by seconds", process, 0, 32)
     own = pieces()
-    count("by seconds: how many pieces", 3 <= len(own) <= 5, own)
+    count("by seconds: how many pieces", 4 <= len(own) <= 5, own)
     count("by seconds: they are the recording", b"".join(map(read, own)) == code(frames))
-    number = 0
+    number, begun = 0, None
     for name in own:
         lines = index_of(name).splitlines()
         count(f"by seconds: {name}: not empty", len(lines) > 0)
         count(f"by seconds: {name}: its index", read(name + ".index") == index_of(name))
         times = [list(map(int, line.split())) for line in read(name + ".times").splitlines()]
         count(f"by seconds: {name}: its times", [line[0] for line in times] == list(range(number, number + len(lines))), times)
-        number += len(lines)
-        count(f"by seconds: {name}: how long", name == own[-1] or 0.9e9 <= times[-1][3] - times[0][3] <= 4e9, times[-1][3] - times[0][3])
+        count(f"by seconds: {name}: how long", times[-1][2] - times[0][2] < 1.3e9, times)
+        count(f"by seconds: {name}: how long after the one before", begun is None or times[0][2] - begun > 0.7e9, times)
+        count(f"by seconds: {name}: a pause begins another", not number < 26 < number + len(lines), times)
+        number, begun = number + len(lines), times[0][2]
     leave()
 
 

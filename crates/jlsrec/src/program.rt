@@ -26,7 +26,7 @@ use std::time::Clock;
 /// The opener opens the files of the same runtime; lanes open pipes with it, in their threads.
 pub fn start<R, O, W, E>(rt: &R, opener: O, output: &mut Counted<W>, console: &mut Console<E>) -> u8
 where
-    R: Env + Host + Clock + Threads + Wait + Sync,
+    R: Env + Host + Clock + Threads + Wait + Sync + Clone + Drop,
     O: Makes<File = R::File> + Copy + Send,
     R::File: Send + Locks,
     O::Finished: Send,
@@ -59,7 +59,7 @@ where
 /// `check` and `replay` write through a buffer, which is flushed at the end.
 fn run<R, O, W, E>(program: Program<'_, R, O, W, E>, words: &[String]) -> u8
 where
-    R: Host + Clock + Threads + Wait + Sync,
+    R: Host + Clock + Threads + Wait + Sync + Clone + Drop,
     O: Makes<File = R::File> + Copy + Send,
     R::File: Send + Locks,
     O::Finished: Send,

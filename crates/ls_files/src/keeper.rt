@@ -23,7 +23,7 @@ pub enum Beside {
 
 impl Beside {
     /// What its name adds to the recording's.
-    fn ending(self) -> &'static str {
+    pub fn ending(self) -> &'static str {
         match self {
             Beside::Index => INDEX,
             Beside::Times => TIMES,
@@ -38,7 +38,7 @@ pub struct Keeper<O: Makes> {
     recording: Held<O::File>,
     /// The files to make beside the recording, or existing ones.
     beside: Vec<(Beside, Held<O::File>)>,
-    /// The pieces of an earlier recording, if there are any.
+    /// The pieces of earlier recordings, if there are any.
     row: Option<Row>,
     /// Whether earlier files are removed once the recording has a codestream.
     replaces: bool,
@@ -133,17 +133,9 @@ impl<O: Makes + Copy + Drop> Keeper<O> {
         }
     }
 
-    /// Has the pieces of an earlier recording be renamed with it, of which there are `count`, and be removed with it if
-    /// they are replaceable and it is to be replaced.
-    pub fn claim_row(
-        &mut self,
-        alloc: Global,
-        path: &str,
-        count: u32,
-        are_replaceable: bool,
-    ) -> Result<(), AllocError> {
-        self.row = Some(Row::new(alloc, path, count, are_replaceable)?);
-        Ok(())
+    /// Has the pieces of earlier recordings be renamed with the recording, and be removed with it as far as they may.
+    pub fn claim_row(&mut self, row: Row) {
+        self.row = Some(row);
     }
 
     /// Makes the files of the piece of this number, from 1, of the recording at a path, as `make` makes those of a
@@ -303,7 +295,7 @@ impl<O: Makes + Copy + Drop> Keeper<O> {
         }
     }
 
-    /// Renames the pieces of an earlier recording by this number, if there are any that aren't renamed; whether that
+    /// Renames the pieces of earlier recordings by this number, if there are any that aren't renamed; whether that
     /// worked.
     fn clear_row(&mut self, number: u32) -> Result<bool, Unmade> {
         match &mut self.row {
@@ -315,7 +307,7 @@ impl<O: Makes + Copy + Drop> Keeper<O> {
         }
     }
 
-    /// Gives the pieces of an earlier recording their names back.
+    /// Gives the pieces of earlier recordings their names back.
     fn give_row_back(&mut self) {
         if let Some(row) = &mut self.row {
             row.give_back(&self.opener);

@@ -23,7 +23,7 @@
 //! makes files, in any thread), `source` (a file that is read, whose first bytes `front` keeps), `patient` (writes that
 //! are tried again), `target` (a file that is written), `place` (the place of a file that is to be made, and what is
 //! there already), `held` (a file that is made, from the lock of the earlier one to the last sync), `row` (the names of
-//! a recording's pieces, and those of an earlier recording), `keeper` (a recording's file and those beside it, or those
+//! a recording's pieces, and those of earlier recordings), `keeper` (a recording's file and those beside it, or those
 //! of a piece of it, together), `folders` (locks the folders in which files are made), `likeness` (guesses formats).
 //! The known bytes of a source or a target are those of its file, once that is open (`specs/View/Opened.antt`). No
 //! contract says more of files: the tests of the whole program show how these calls work.
@@ -44,13 +44,13 @@ pub mod stop;
 pub mod target;
 
 pub use folders::Folders;
-pub use identity::{Identity, Spot};
+pub use identity::{Identity, Spot, folder_of, last_part};
 pub use keeper::{Beside, INDEX, Keeper, Piece, TIMES, Targets, Unmade};
 pub use likeness::likeness_of;
 pub use opener::{Locks, Makes, Opener, Opens};
 pub use patient::Patient;
 pub use place::Place;
-pub use row::piece_path;
+pub use row::{Row, piece_number, piece_path};
 pub use source::Source;
 pub use stop::Stop;
 pub use target::Target;

@@ -8,7 +8,7 @@ use crate::names::Names;
 use crate::pieces::{Cutting, Succession};
 use crate::refusal::Refusal;
 use ls_console::Console;
-use ls_files::{Beside, Keeper, Makes, Place, Target, Targets, Unmade};
+use ls_files::{Beside, Keeper, Makes, Place, Row, Target, Targets, Unmade};
 use ls_frame::{Failed, Outlet};
 use std::alloc::Global;
 use std::io;
@@ -101,14 +101,14 @@ pub struct Synced {
 
 impl<'a, O: Makes + Copy + Drop> Film<'a, O> {
     /// Locks existing files at the place of its recording, and at those of its index and its times if they are given.
-    /// So many pieces of an earlier recording are renamed with that.
+    /// The pieces of earlier recordings are renamed with these.
     pub fn claim(
         alloc: Global,
         opener: O,
         found: &Found<'a>,
         index: Option<&Place<'a>>,
         times: Option<&Place<'a>>,
-        pieces: u32,
+        pieces: Option<Row>,
         cutting: Option<Cutting<'a, O>>,
         replace: bool,
     ) -> Result<Film<'a, O>, Refusal<'a>>
@@ -117,8 +117,8 @@ impl<'a, O: Makes + Copy + Drop> Film<'a, O> {
         let names = found.names;
         match Keeper::claim(alloc, opener, &found.place, index, times, replace) {
             Ok(mut keeper) => {
-                if pieces > 0 {
-                    keeper.claim_row(alloc, names.recording.as_str(), pieces, names.is_cut)?;
+                if let Some(row) = pieces {
+                    keeper.claim_row(row);
                 }
                 Ok(Film {
                     names,

@@ -2,17 +2,21 @@
 ghost use Rattle.std.specs.Prelude.{◌≡◌};
 
 use crate::names::Names;
-use ls_files::{Beside, INDEX, Identity, Place, Spot, TIMES, piece_path};
+use ls_files::{
+    Beside, INDEX, Identity, Place, Row, Spot, TIMES, folder_of, last_part, piece_number,
+    piece_path,
+};
 use std::alloc::AllocError;
-use std::fs;
 use std::rt::Files;
+use std::{fs, io};
 
 /// A film that was found, before anything is locked.
 #[derive(Clone, Copy)]
 pub struct Found<'a> {
     pub names: &'a Names<'a>,
-    /// The film's file, and the folder and name at which it is.
+    /// The film's file, whether that is a pipe or a device, and the folder and name at which it is.
     identity: Option<Identity>,
+    is_stream: bool,
     spot: Option<Spot<'a>>,
     /// The places of its recording, and of the index and the times of that.
     pub place: Place<'a>,
@@ -33,6 +37,7 @@ impl<'a> Found<'a> {
         Found {
             names,
             identity,
+            is_stream: fs::metadata(rt, names.file).is_ok_and(|file| !file.is_file()),
             spot: Spot::of(rt, names.file),
             place: Place::of(rt, names.recording.as_str()),
             index: Place::of(rt, names.index.as_str()),
@@ -42,14 +47,15 @@ impl<'a> Found<'a> {
 }
 
 /// The first film whose recording, index or times would be the same file as another's or as one another, or that is
-/// another's recording, an index or times, or into which one of these would be written, or that or whose recording
-/// could be a piece of another's.
+/// another's recording, an index or times, or into which one of these would be written, or that is another's pipe or
+/// device, or that or whose recording could be a piece of another's.
 pub fn written_twice<'a>(films: &[Found<'a>], replace: bool) -> Option<&'a str> {
     for (place, film) in films.iter().enumerate() {
         for (other, one) in films.iter().enumerate() {
             if is_overwritten(film, one, replace)
                 || meets_beside(film, one, replace)
-                || (place != other && (are_one(film, one) || is_piece(film, one)))
+                || (place != other
+                    && (are_one(film, one) || are_one_stream(film, one) || is_piece(film, one)))
                 || (place == other && are_one_beside(film))
             {
                 return Some(film.names.file);
@@ -60,14 +66,34 @@ pub fn written_twice<'a>(films: &[Found<'a>], replace: bool) -> Option<&'a str> 
 }
 
 /// The recording of the first film that is to be cut into pieces, and can't be: it is written into a pipe, a device or
-/// an open file.
-pub fn uncut<'a>(films: &[Found<'a>]) -> Option<&'a str> {
+/// an open file, or its name is too long for those of pieces.
+pub fn uncut<'a, R: Files + AllocGlobal>(
+    rt: &R,
+    films: &[Found<'a>],
+) -> Result<Option<&'a str>, AllocError> {
     for film in films {
-        if film.names.is_cut && film.place.is_written_into() {
-            return Some(film.names.recording.as_str());
+        let is_cut = film.names.is_cut;
+        if is_cut && (film.place.is_written_into() || is_too_long(rt, film.names)?) {
+            return Ok(Some(film.names.recording.as_str()));
         }
     }
-    None
+    Ok(None)
+}
+
+/// Whether a piece with a number of seven digits, or a file beside it that is to be made, would have a name that is too
+/// long.
+fn is_too_long<R: Files + AllocGlobal>(rt: &R, names: &Names<'_>) -> Result<bool, AllocError> {
+    let path = piece_path(rt.alloc(), names.recording.as_str(), 9_999_999)?;
+    let ending = if names.is_indexed || names.is_timed {
+        INDEX
+    } else {
+        ""
+    };
+    let path = format!(in rt.alloc(); "{path}{ending}")?;
+    match fs::symlink_metadata(rt, &path) {
+        Ok(_) => Ok(false),
+        Err(fault) => Ok(fault.kind() == io::ErrorKind::InvalidFilename),
+    }
 }
 
 /// Whether this film or its recording could be a piece of another's recording.
@@ -100,6 +126,11 @@ fn are_one(film: &Found<'_>, other: &Found<'_>) -> bool {
         || (film.spot.is_some() && film.spot == other.place.spot())
         || (other.names.is_indexed && has_beside_at(film, &other.index))
         || (other.names.is_timed && has_beside_at(film, &other.times))
+}
+
+/// Whether two films are read from the same pipe or device: each would have what the other lacks.
+fn are_one_stream(film: &Found<'_>, other: &Found<'_>) -> bool {
+    film.is_stream && film.identity.is_some() && film.identity == other.identity
 }
 
 /// Whether a film's index and its times are both to be made, and would be the same file.
@@ -172,25 +203,71 @@ fn is_at(film: &Found<'_>, place: &Place<'_>) -> bool {
         || (film.identity.is_some() && film.identity == place.identity())
 }
 
-/// The number of pieces of an earlier recording that are renamed with it: those with numbers from 1 on, as far as they
-/// are there and neither they nor files beside them are one of the films, another film's recording or the report, and
-/// no film stands beside them whose recordings they could be. None if the recording is written into a pipe, a device or
-/// an open file; or if it isn't there, and none is cut into pieces that would have these names.
-pub fn pieces_to_claim<R: Files + AllocGlobal>(
+/// The pieces of earlier recordings that are renamed before a recording is made, but none that is one of the films,
+/// another film's recording or the report, or has such a file or a film beside it: those with numbers from 1 on, as far
+/// as they are there; and if the recording is to be cut into pieces, those after a gap, too. If it isn't, none whose name
+/// is that of a film beside the film. Only the first ones may be removed with the earlier recording, up to such a film.
+/// None if the recording is written into a pipe, a device or an open file; or if it isn't there, and isn't to be cut
+/// into pieces.
+pub fn pieces_to_claim<R: Files + AllocGlobal + Clone + Drop>(
     rt: &R,
     film: &Found<'_>,
     films: &[Found<'_>],
     report: Option<&Place<'_>>,
-) -> Result<u32, AllocError> {
-    if film.place.is_written_into() || !(film.names.is_cut || film.place.standing().is_kept()) {
-        return Ok(0);
+) -> Result<Option<Row>, AllocError> {
+    let is_cut = film.names.is_cut;
+    if film.place.is_written_into() || !(is_cut || film.place.standing().is_kept()) {
+        return Ok(None);
     }
-    for number in 0..u32::MAX - 1 {
-        if !has_piece(rt, film, number + 1, films, report)? {
-            return Ok(number);
+    let alloc = rt.alloc();
+    let recording = film.names.recording.as_str();
+    let mut numbers = Vec::new(alloc);
+    let mut replaceable = 0;
+    for number in 1..u32::MAX {
+        let is_others = has_film(rt, film.names.file, number)?;
+        if (is_others && !is_cut) || !has_piece(rt, film, number, films, report)? {
+            break;
+        }
+        let before = numbers.len();
+        numbers.push(number)?;
+        if is_cut && !is_others && replaceable == before {
+            replaceable = numbers.len();
         }
     }
-    Ok(0)
+    let first = numbers.len();
+    if is_cut {
+        for number in pieces_at(rt, recording)? {
+            if number as usize > first && has_piece(rt, film, number, films, report)? {
+                numbers.push(number)?;
+            }
+        }
+    }
+    if numbers.is_empty() {
+        return Ok(None);
+    }
+    Ok(Some(Row::new(alloc, recording, numbers, replaceable)?))
+}
+
+/// The numbers of the pieces of this recording that its folder has by their names, in any order; none if the folder
+/// can't be listed.
+fn pieces_at<R: Files + AllocGlobal + Clone + Drop>(
+    rt: &R,
+    recording: &str,
+) -> Result<Vec<u32>, AllocError> {
+    let mut numbers = Vec::new(rt.alloc());
+    let entries = match fs::read_dir(rt, folder_of(recording)) {
+        Ok(entries) => entries,
+        Err(fault) if fault.kind() == io::ErrorKind::OutOfMemory => return Err(AllocError),
+        Err(_) => return Ok(numbers),
+    };
+    for entry in entries {
+        if let Ok(entry) = entry {
+            if let Some(number) = piece_number(entry.file_name(), last_part(recording)) {
+                numbers.push(number)?;
+            }
+        }
+    }
+    Ok(numbers)
 }
 
 /// Whether the piece of this number of an earlier recording is there, and neither it nor a file beside it is one of the
@@ -205,7 +282,11 @@ fn has_piece<R: Files + AllocGlobal>(
     let alloc = rt.alloc();
     let path = piece_path(alloc, film.names.recording.as_str(), number)?;
     let place = Place::of(rt, &path);
-    if !place.standing().is_kept() || is_spoken_for(&place, films, report) || has_film(rt, &path) {
+    if !place.standing().is_kept() || is_spoken_for(&place, films, report) {
+        return Ok(false);
+    }
+    let stem = film.names.recording.as_str();
+    if has_film(rt, stem.strip_suffix(".jls").unwrap_or(stem), number)? {
         return Ok(false);
     }
     for ending in [INDEX, TIMES] {
@@ -217,12 +298,10 @@ fn has_piece<R: Files + AllocGlobal>(
     Ok(true)
 }
 
-/// Whether a film stands beside the recording at this path, under its name without the ending.
-fn has_film<R: Files>(rt: &R, recording: &str) -> bool {
-    match recording.strip_suffix(".jls") {
-        Some(film) => fs::metadata(rt, film).is_ok(),
-        None => false,
-    }
+/// Whether there is a film whose name is that of a film and this number of a piece.
+fn has_film<R: Files + AllocGlobal>(rt: &R, file: &str, number: u32) -> Result<bool, AllocError> {
+    let film = format!(in rt.alloc(); "{file}.{number:05}")?;
+    Ok(fs::metadata(rt, &film).is_ok())
 }
 
 /// Whether the file at a place is one of the films or the report, or a film's recording, or beside one.

@@ -1,5 +1,5 @@
-//! Has a film be read no further than its first frames, and notes when the bytes of each came and when the next piece
-//! of its recording is due.
+//! Has a film be read no further than its first frames, and notes when the bytes of each came and with which frame the
+//! next piece of its recording begins.
 ghost use Rattle.std.specs.Prelude.{◌≡◌};
 ghost use Rattle.ls_frame.specs.View.Devices.{risen};
 
@@ -11,8 +11,8 @@ use std::io::Read;
 use std::sync::atomic::{AtomicBool, AtomicU64, Ordering};
 
 /// How far a film is read, and when its bytes came, as its reader and the gate of its recording tell each other in the
-/// thread that reads the film; and when the next piece of its recording is due, as the gate tells its writer in the
-/// thread that writes.
+/// thread that reads the film; and with which frame the next piece of its recording begins, as the gate tells its writer
+/// in the thread that writes.
 #[derive(Drop)]
 pub struct Course {
     /// The number of frames after which the film is read no further, if there is one, and whether so many were read.
@@ -28,12 +28,15 @@ pub struct Course {
     came: AtomicU64,
     /// Where its recording is cut into pieces, if it is.
     cut: Option<Cut>,
-    /// The number of frames in the piece that is written, and the age of the recording when the first of these was
-    /// written, in nanoseconds.
+    /// If that is by time, the age of the recording when each frame was read, in nanoseconds, at its number modulo their
+    /// count.
+    ages: Vec<AtomicU64>,
+    /// The number of frames that were written; how many of them are in the piece that is written; and the age at which
+    /// the first of these was read.
+    written: AtomicU64,
     frames: AtomicU64,
     began: AtomicU64,
-    /// Whether the next piece is due; and whether one was begun since that was last asked.
-    is_due: AtomicBool,
+    /// Whether a piece was begun since that was last asked.
     is_new: AtomicBool,
 }
 
@@ -42,13 +45,15 @@ const SECOND: u64 = 1_000_000_000;
 
 impl Course {
     /// The courses of `films` films: `count` frames are read of each, if there is a count, times are noted if they are
-    /// wanted, and the recordings are cut into pieces, if they are; none with nothing of this.
+    /// wanted, and the recordings are cut into pieces, if they are; none with nothing of this. At most `window` frames of
+    /// a film are read and not yet written.
     pub fn of_each(
         alloc: Global,
         films: usize,
         count: Option<u64>,
         is_timed: bool,
         cut: Option<Cut>,
+        window: usize,
     ) -> Result<Vec<Course>, AllocError> {
         let mut courses = Vec::new(alloc);
         if count.is_some() || is_timed || cut.is_some() {
@@ -61,9 +66,10 @@ impl Course {
                     first: AtomicU64::new(0),
                     came: AtomicU64::new(0),
                     cut,
+                    ages: ages_of(alloc, cut, window)?,
+                    written: AtomicU64::new(0),
                     frames: AtomicU64::new(0),
                     began: AtomicU64::new(0),
-                    is_due: AtomicBool::new(false),
                     is_new: AtomicBool::new(false),
                 })?;
             }
@@ -103,38 +109,65 @@ impl Course {
         }
     }
 
-    /// Notes that a frame was written whole, at this age of the recording in nanoseconds.
-    pub fn wrote(&self, age: u64) {
-        let Some(cut) = self.cut else {
-            return;
-        };
-        let frames = self.frames.load(Ordering::SeqCst).saturating_add(1);
-        self.frames.store(frames, Ordering::SeqCst);
-        if frames == 1 {
-            self.began.store(age, Ordering::SeqCst);
-        }
-        let is_due = match cut {
-            Cut::Frames(most) => frames >= u64::from(most),
-            Cut::Seconds(most) => {
-                let lasted = age.saturating_sub(self.began.load(Ordering::SeqCst));
-                lasted >= u64::from(most).saturating_mul(SECOND)
-            }
-        };
-        if is_due {
-            self.is_due.store(true, Ordering::SeqCst);
+    /// Whether it has to be told the age of the recording when a frame was read.
+    pub fn is_aged(&self) -> bool {
+        !self.ages.is_empty()
+    }
+
+    /// Notes the age of the recording when the frame of this number was read, in nanoseconds.
+    pub fn note_age(&self, number: u64, age: u64) {
+        if let Some(place) = self.age_at(number) {
+            place.store(age, Ordering::SeqCst);
         }
     }
 
-    /// Whether the next piece is due.
+    /// Notes that a frame was written whole.
+    pub fn wrote(&self) {
+        let number = self.written.load(Ordering::SeqCst);
+        let frames = self.frames.load(Ordering::SeqCst);
+        if frames == 0 {
+            self.began.store(self.age_of(number), Ordering::SeqCst);
+        }
+        self.frames
+            .store(frames.saturating_add(1), Ordering::SeqCst);
+        self.written
+            .store(number.saturating_add(1), Ordering::SeqCst);
+    }
+
+    /// Whether the next piece begins with the frame that is written next, or is being written: the piece has as many
+    /// frames as are asked for, or the frame was read so many seconds after the first one of the piece.
     pub fn is_due(&self) -> bool {
-        self.is_due.load(Ordering::SeqCst)
+        let frames = self.frames.load(Ordering::SeqCst);
+        match self.cut {
+            Some(Cut::Frames(most)) => frames >= u64::from(most),
+            Some(Cut::Seconds(most)) => {
+                let age = self.age_of(self.written.load(Ordering::SeqCst));
+                let lasted = age.saturating_sub(self.began.load(Ordering::SeqCst));
+                frames > 0 && lasted >= u64::from(most).saturating_mul(SECOND)
+            }
+            None => false,
+        }
     }
 
     /// Notes that the next piece is begun.
     pub fn begin_piece(&self) {
-        self.is_due.store(false, Ordering::SeqCst);
         self.frames.store(0, Ordering::SeqCst);
         self.is_new.store(true, Ordering::SeqCst);
+    }
+
+    /// The age of the recording when the frame of this number was read; 0 if it isn't cut by time.
+    fn age_of(&self, number: u64) -> u64 {
+        match self.age_at(number) {
+            Some(place) => place.load(Ordering::SeqCst),
+            None => 0,
+        }
+    }
+
+    fn age_at(&self, number: u64) -> Option<&AtomicU64> {
+        if self.ages.is_empty() {
+            return None;
+        }
+        self.ages.get((number % self.ages.len() as u64) as usize)
     }
 
     /// Whether a piece was begun since this was last asked.
@@ -155,6 +188,17 @@ impl Course {
                 .store(self.came.load(Ordering::SeqCst), Ordering::SeqCst);
         }
     }
+}
+
+/// A place for the age at which each frame was read that may be read and not written, if a recording is cut by time.
+fn ages_of(alloc: Global, cut: Option<Cut>, window: usize) -> Result<Vec<AtomicU64>, AllocError> {
+    let mut ages = Vec::new(alloc);
+    if let Some(Cut::Seconds(_)) = cut {
+        for _place in 0..window {
+            ages.push(AtomicU64::new(0))?;
+        }
+    }
+    Ok(ages)
 }
 
 /// A reader whose reads fail once so many frames were read as its course has, if it has one; it notes there when the

@@ -44,7 +44,7 @@ pub struct Opened<'a, O: Makes> {
     pub report: Option<MadeFile<'a, O>>,
 }
 
-/// The number of times that a folder which another program has locked is tried, and the milliseconds between them: a
+/// The number of times that folders which another program has locked are tried, and the milliseconds between them: a
 /// second in all.
 const TRIES: u32 = 100;
 
@@ -63,7 +63,7 @@ pub fn open_films<'o, 'a, R, O, E>(
     console: &mut Console<E>,
 ) -> Result<Opened<'a, O>, Refusal<'a>>
 where
-    R: Files + AllocGlobal + Wait,
+    R: Files + AllocGlobal + Wait + Clone + Drop,
     O: Makes<File = R::File> + Copy + Drop + 'a,
     R::File: 'a,
     E: Outlet,
@@ -127,7 +127,7 @@ struct Made<'a, O: Makes> {
 
 impl<'o, 'a, R, O> Opening<'o, 'a, R, O>
 where
-    R: Files + AllocGlobal + Wait,
+    R: Files + AllocGlobal + Wait + Clone + Drop,
     O: Makes<File = R::File> + Copy + Drop + 'a,
     R::File: 'a,
 {
@@ -165,25 +165,31 @@ where
     /// are in use.
     fn lock_folders(&self) -> Result<Folders<O::File>, AllocError> {
         let mut folders = Folders::new(self.rt.alloc());
+        let mut tries = TRIES;
         for film in self.names {
-            self.lock_folder(film.recording.as_str(), &mut folders)?;
+            tries = self.lock_folder(film.recording.as_str(), &mut folders, tries)?;
         }
         if let Some(report) = self.asked.report {
-            self.lock_folder(report, &mut folders)?;
+            let _left = self.lock_folder(report, &mut folders, tries)?;
         }
         Ok(folders)
     }
 
-    /// Locks the folder of a path likewise.
-    fn lock_folder(&self, path: &str, folders: &mut Folders<O::File>) -> Result<(), AllocError> {
+    /// Locks the folder of a path likewise, and returns how many of these tries are left.
+    fn lock_folder(
+        &self,
+        path: &str,
+        folders: &mut Folders<O::File>,
+        tries: u32,
+    ) -> Result<u32, AllocError> {
         let pause = Parker::new();
-        for _try in 0..TRIES {
+        for used in 0..tries.max(1) {
             if folders.lock(&self.opener, path)? {
-                break;
+                return Ok(tries.saturating_sub(used));
             }
             pause.park_timeout(self.rt, Duration::from_millis(PAUSE));
         }
-        Ok(())
+        Ok(0)
     }
 
     /// Locks existing files at the places of the report, of recordings and of the files beside them, unless one is a
@@ -213,7 +219,10 @@ where
             };
             films.push(Found::look(self.rt, names, identity))?;
         }
-        match (written_twice(&films, self.asked.replace), uncut(&films)) {
+        match (
+            written_twice(&films, self.asked.replace),
+            uncut(self.rt, &films)?,
+        ) {
             (Some(file), _) => Err(Refusal::Twice(file)),
             (None, Some(recording)) => Err(Refusal::Uncut(recording)),
             (None, None) => Ok(films),

@@ -9,7 +9,7 @@ use crate::chain::Chain;
 use crate::limited::Course;
 use crate::names::Names;
 use ls_archive::{Follower, IndexFault, Indexing};
-use ls_files::{Keeper, Makes, Opens, Piece, Target};
+use ls_files::{Keeper, Makes, Opens, Piece, Target, Unmade};
 use ls_frame::Counted;
 use std::alloc::{AllocError, Global};
 use std::io::Write;
@@ -42,8 +42,8 @@ pub struct Succession<'a, O: Makes> {
     pub opener: O,
     pub names: &'a Names<'a>,
     pub cutting: Cutting<'a, O>,
-    /// Why the next piece couldn't be made, and its number, if that is so.
-    pub unmade: Option<(u32, io::Error)>,
+    /// Which file of the next piece couldn't be made, and why, and the number of the piece, if that is so.
+    pub unmade: Option<(u32, Unmade)>,
 }
 
 /// The files of the next piece of a recording, and how they are written and handed on.
@@ -73,8 +73,8 @@ pub struct Parts<'a, O: Makes> {
     pub finished: O::Finished,
     pub last: Target<'a, O>,
     pub beside: BesideParts<'a, O>,
-    /// Why a piece after the last couldn't be made, and its number, if that is so.
-    pub unmade: Option<(u32, io::Error)>,
+    /// Which file of a piece after the last couldn't be made, and why, and the number of that piece, if that is so.
+    pub unmade: Option<(u32, Unmade)>,
 }
 
 /// What there is of the indexes of a recording whose film has ended.
@@ -264,7 +264,7 @@ impl<'a, O: Makes + Copy + Drop> Succession<'a, O> {
         ) {
             Ok((keeper, made)) => Ok(self.next_piece(keeper, made)),
             Err(unmade) => {
-                self.unmade = Some((number, unmade.fault));
+                self.unmade = Some((number, unmade));
                 Err(unmade.fault)
             }
         }

@@ -19,12 +19,11 @@ use ls_console::{
     Cause, Console, DONE, EndedIndex, FAILED, Shown, cause_of_input, explain, no_memory,
     say_index_end, say_unmade, say_unsynced, write_text,
 };
-use ls_files::{INDEX, Makes, Opens, TIMES, Target, Targets, piece_path};
+use ls_files::{INDEX, Makes, Opens, TIMES, Target, Targets, Unmade, piece_path};
 use ls_frame::{Counted, Failed, NetpbmFault, Outlet};
 use ls_opening::{BesideParts, BrokenIndex, Film, IndexFollower, Names, Parts, Synced};
 use ls_recorder::{LaneFault, Track};
 use std::alloc::{AllocError, Global};
-use std::io;
 use std::io::Write;
 use std::sync::Wait;
 use std::time::Clock;
@@ -329,21 +328,25 @@ where
     (index, times)
 }
 
-/// Says which piece couldn't be made, if one couldn't, and why, if reasons are on.
+/// Says which file of a piece couldn't be made, if one couldn't, and why, if reasons are on.
 fn say_unmade_piece<E: Outlet>(
     alloc: Global,
     names: &Names<'_>,
-    unmade: Option<(u32, io::Error)>,
+    unmade: Option<(u32, Unmade)>,
     console: &mut Console<E>,
 ) {
-    if let Some((piece, fault)) = unmade {
-        if let Ok(path) = piece_path(alloc, names.recording.as_str(), piece) {
-            let _failed = say_unmade(&path, fault, console);
+    if let Some((piece, unmade)) = unmade {
+        let ending = match unmade.beside {
+            Some(beside) => beside.ending(),
+            None => "",
+        };
+        if let Ok(path) = beside_path(alloc, names, piece, ending) {
+            let _failed = say_unmade(&path, unmade.fault, console);
         }
     }
 }
 
-/// The path of an index or of times, by its ending: beside the recording, or beside a later piece of it.
+/// The path of a recording, of an index or of times, by its ending: of the first piece, or of a later one.
 fn beside_path(
     alloc: Global,
     names: &Names<'_>,

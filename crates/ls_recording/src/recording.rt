@@ -20,7 +20,7 @@ use ls_frame::{Feed, Outlet, Tuning};
 use ls_opening::{
     Chain, Course, Devices, Film, Limited, Names, Opened, Writer, names_once, open_films,
 };
-use ls_recorder::{Gate, RecordFault, Recording as Tracks, Track, record};
+use ls_recorder::{Gate, MOST_WINDOW, RecordFault, Recording as Tracks, Track, record};
 use std::alloc::{AllocError, Global};
 use std::io::Write;
 use std::sync::Wait;
@@ -53,7 +53,7 @@ struct Finished<'a, O: Makes> {
 /// asked to stop, or as many frames of it as are asked for.
 pub fn record_films<R, O, W, E>(program: Program<'_, R, O, W, E>, asked: RecordRequest<'_>) -> u8
 where
-    R: Host + Clock + Threads + Wait + Sync,
+    R: Host + Clock + Threads + Wait + Sync + Clone + Drop,
     O: Makes<File = R::File> + Copy + Send,
     R::File: Send,
     O::Finished: Send,
@@ -67,7 +67,8 @@ where
         Err(refusal) => return refusal.say(program.console),
     };
     let alloc = program.rt.alloc();
-    let Ok(courses) = Course::of_each(alloc, names.len(), asked.count, asked.times, asked.pieces)
+    let (count, films) = (asked.count, names.len());
+    let Ok(courses) = Course::of_each(alloc, films, count, asked.times, asked.pieces, MOST_WINDOW)
     else {
         return no_memory(program.console);
     };
@@ -91,7 +92,7 @@ fn record_named<'a, R, O, W, E>(
     chains: &'a [Chain<O>],
 ) -> u8
 where
-    R: Host + Clock + Threads + Wait + Sync,
+    R: Host + Clock + Threads + Wait + Sync + Clone + Drop,
     O: Makes<File = R::File> + Copy + Send,
     R::File: Send,
     O::Finished: Send,
@@ -123,7 +124,7 @@ fn record_opened<'a, R, O, W, E>(
     opened: Opened<'a, O>,
 ) -> u8
 where
-    R: Host + Clock + Threads + Wait + Sync,
+    R: Host + Clock + Threads + Wait + Sync + Clone + Drop,
     O: Makes + Copy + Send,
     O::File: Send,
     O::Finished: Send,

@@ -28,12 +28,15 @@ where
             Notice::Reading(_) => course.begin(),
             Notice::Read { number, .. } => {
                 course.note(number);
+                if course.is_aged() {
+                    course.note_age(number, self.watch.age());
+                }
                 if let Some(times) = self.times.get(film) {
                     times.note(number, course.times());
                 }
             }
             Notice::Written { number, .. } => {
-                course.wrote(self.watch.age());
+                course.wrote();
                 if course.is_new_piece() {
                     self.watch.note_finished();
                 }
