@@ -81,6 +81,11 @@ for at, byte in enumerate(stream):
         count(f"{name}: play", (status, shown, said) == (0, SIXTEEN[1], "") or (stops and not shown), status, shown, said)
         again = cases.run("verify", "--frames", "3", "film", "damaged.jls")
         count(f"{name}: verify", again == ((1, b"", said) if stops else (0, b"", "")), again)
+# Data that can't be decoded are no fault before the part.
+write("film", film([BLACK, WHITE, SIXTEEN]))
+write("damaged.jls", recording([BLACK, BROKEN, SIXTEEN]))
+says(0, SIXTEEN[1], "", "play", "--frames", "2", "damaged.jls")
+says(0, "", "", "verify", "--frames", "2", "film", "damaged.jls")
 frames = MIXED * 3
 write("film", film(frames))
 
